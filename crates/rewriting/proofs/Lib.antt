@@ -1,0 +1,14 @@
+pub mod Equality
+pub mod Reading
+pub mod Bindings
+pub mod Closures
+pub mod Stepping
+pub mod Members
+pub mod Walking
+pub mod Sheets
+pub mod Counts
+pub mod Redexes
+pub mod Listing
+pub mod Replacing
+pub mod Running
+pub mod Choosing

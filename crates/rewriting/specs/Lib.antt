@@ -1,0 +1,10 @@
+pub mod Terms
+pub mod Cards
+pub mod Places
+pub mod Matching
+pub mod Relations
+pub mod Steps
+pub mod Subterms
+pub mod Sites
+pub mod Runs
+pub mod Counting
