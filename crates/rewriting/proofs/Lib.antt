@@ -12,3 +12,4 @@ pub mod Listing
 pub mod Replacing
 pub mod Running
 pub mod Choosing
+pub mod Sampling

@@ -2,7 +2,7 @@
 use mathlib.Core.Path.{_≡_}
 use mathlib.Core.List.{List, [], _∷_, List·Memᴰ}
 use mathlib.Core.Bool.{true}
-use Prim.Native.Nat.{ℕ, _<_}
+use Prim.Native.Nat.{ℕ, zero, suc, _<_}
 use Rattle.std.specs.declared.option.Option.{Option}
 use Rattle.std.specs.declared.option.Option.the-variants.{Some, None}
 use Rattle.rewriting.specs.Terms.{Tree, node, Trees, nil, cons, Term, var, app, Terms, nilᵗ, consᵗ, count, countᵗ, occurs}
@@ -10,6 +10,12 @@ use Rattle.rewriting.specs.Terms.{Tree, node, Trees, nil, cons, Term, var, app
 -- a signature gives each symbol its arity, the number of children that it takes, and nothing for a symbol that it lacks
 abbrev pub Signature : Type 0
 Signature = ℕ → Option ℕ
+
+-- the signature of symbols numbered from 0, by the list of their arities
+abbrev pub signature : List ℕ → Signature
+signature [] k = None
+signature (n ∷ ns) zero = Some n
+signature (n ∷ ns) (suc k) = signature ns k
 
 -- a rule carries its number, so leaving out some rules renumbers none
 pub record Rule : Type 0 where

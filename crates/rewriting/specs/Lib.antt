@@ -8,3 +8,4 @@ pub mod Subterms
 pub mod Sites
 pub mod Runs
 pub mod Counting
+pub mod Samples

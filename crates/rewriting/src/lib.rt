@@ -11,6 +11,7 @@ pub mod counting;
 pub mod matching;
 pub mod places;
 pub mod runs;
+pub mod samples;
 pub mod sites;
 pub mod steps;
 pub mod subterms;
