@@ -1,4 +1,5 @@
 // Laws of terms as preorder lists of places.
+ghost use Rattle.rewriting.specs.Places.{Counting-off-tells-terms};
 ghost use Rattle.rewriting.specs.Places.{Forest-of-places};
 ghost use Rattle.rewriting.specs.Places.{Places-of-forest};
 
@@ -10,4 +11,9 @@ pub fn forest_of_places()
 // What a list of places makes has just those places.
 pub fn places_of_forest()
     ensures { λ _. ⌜ Places-of-forest ⌝ }
+{}
+
+// A list of places is that of some terms exactly if it comes out even when each symbol's children are counted off.
+pub fn counting_off_tells_terms()
+    ensures { λ _. ⌜ Counting-off-tells-terms ⌝ }
 {}

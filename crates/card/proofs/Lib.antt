@@ -1,0 +1,5 @@
+pub mod Naming
+pub mod Finding
+pub mod Tables
+pub mod Sides
+pub mod Rules

@@ -1,0 +1,9 @@
+pub mod Letters
+pub mod Automaton
+pub mod Spelling
+pub mod Peeling
+pub mod Acceptance
+pub mod Heads
+pub mod Children
+pub mod SymbolLines
+pub mod RuleLines

@@ -1,0 +1,100 @@
+// Rewrites the tea card's recipe outermost and prints the recipe, each step, why it stopped, and the finished sheet.
+mod tea;
+
+use reference::card::Card;
+use reference::card::Symbol;
+use reference::card::name;
+use reference::sheet::Row;
+use reference::sheet::sheet;
+use reference::step::Step;
+use reference::step::outermost_step;
+use reference::text::line_of;
+use reference::tree::Tree;
+use std::alloc::Global;
+use std::error::AnyError;
+use std::str;
+
+const BUDGET: u32 = 1000;
+
+// The tree's text, marked where it was cut.
+fn text_of(heap: Global, symbols: &[Symbol], tree: &Tree) -> Result<String, AnyError> {
+    let line = line_of(heap, symbols, tree)?;
+    let mut text = String::from_str(heap, str::from_utf8(&line.bytes)?)?;
+    if line.cut {
+        text.push_str(" (cut)")?;
+    }
+    Ok(text)
+}
+
+fn print_step(
+    rt: &LibcRuntime,
+    symbols: &[Symbol],
+    number: u32,
+    step: &Step,
+) -> Result<(), AnyError> {
+    let heap = rt.alloc();
+    let rule = step.rule;
+    let redex = text_of(heap, symbols, &step.redex)?;
+    let after = text_of(heap, symbols, &step.after)?;
+    println!(rt, "step {number} rule {rule} {redex}\n{after}")?;
+    Ok(())
+}
+
+// Prints the steps up to the budget, the stop word and how many steps there were. Answers the last tree.
+fn rewrite(rt: &LibcRuntime, card: &Card, recipe: Tree) -> Result<Tree, AnyError> {
+    let heap = rt.alloc();
+    let mut tree = recipe;
+    let mut count = 0;
+    while let Some(step) = outermost_step(heap, card, &tree)? {
+        if count == BUDGET {
+            println!(rt, "spent {count}")?;
+            return Ok(tree);
+        }
+        count += 1;
+        print_step(rt, &card.symbols, count, &step)?;
+        tree = step.after;
+    }
+    println!(rt, "normal {count}")?;
+    Ok(tree)
+}
+
+// A row's line: its number, its symbol's name and its children's numbers.
+fn row_line(
+    heap: Global,
+    symbols: &[Symbol],
+    number: usize,
+    row: &Row,
+) -> Result<String, AnyError> {
+    let symbol = str::from_utf8(name(symbols, row.symbol))?;
+    let mut line = format!(heap, "{number} {symbol}")?;
+    for child in &row.children {
+        let child = *child;
+        line.push_str(&format!(heap, " {child}")?)?;
+    }
+    Ok(line)
+}
+
+// Prints the sheet, and where its last line, the root's, begins.
+fn print_sheet(rt: &LibcRuntime, symbols: &[Symbol], rows: &[Row]) -> Result<(), AnyError> {
+    let heap = rt.alloc();
+    let mut text = String::new(heap);
+    let mut top = 0;
+    for (i, row) in rows.iter().enumerate() {
+        top = text.len();
+        text.push_str(&row_line(heap, symbols, i + 1, row)?)?;
+        text.push_str("\n")?;
+    }
+    let root = rows.len();
+    println!(rt, "{text}top {root} at {top}")?;
+    Ok(())
+}
+
+fn main(rt: LibcRuntime) -> Result<(), AnyError> {
+    let heap = rt.alloc();
+    let card = tea::card(heap)?;
+    let recipe = tea::recipe(heap, &card.symbols)?;
+    rt.println(text_of(heap, &card.symbols, &recipe)?)?;
+    let tree = rewrite(&rt, &card, recipe)?;
+    let rows = sheet(heap, &tree)?;
+    print_sheet(&rt, &card.symbols, &rows)
+}
