@@ -10,9 +10,9 @@ use Rattle.rewriting.specs.Terms.{Tree, node, Trees, nil, cons, same, sames}
 use Rattle.rewriting.specs.Subterms.{member, add, walk, walks}
 use Rattle.std.specs.declared.alloc.Global.{Global}
 use Rattle.std.specs.declared.boxed.Box.{Box}
-use Rattle.reference.specs.declared.tree.Tree as declared
-use Rattle.reference.specs.declared.tree.Trees.{Trees as Children, Cons}
-use Rattle.reference.specs.Meaning.{tree-of, trees-of}
+use Rattle.explicit.specs.declared.tree.Tree as declared
+use Rattle.explicit.specs.declared.tree.Trees.{Trees as Children, Cons}
+use Rattle.explicit.specs.Meaning.{tree-of, trees-of}
 
 mutual
   pub same-sound : (t u : Tree) → same t u ≡ true → t ≡ u

@@ -17,8 +17,8 @@ use Rattle.rewriting.specs.Matching.{fitting}
 use Rattle.rewriting.specs.Sites.{Site, redex, keep, site, sites-from, sites, redexes, rule-number, shared-step}
 use Rattle.rewriting.specs.Subterms.{subterms}
 use Rattle.reference.specs.declared.step.Step.{Step}
-use Rattle.reference.specs.declared.tree.Tree as declared
-use Rattle.reference.specs.Meaning.{tree-of, listed}
+use Rattle.explicit.specs.declared.tree.Tree as declared
+use Rattle.explicit.specs.Meaning.{tree-of, listed}
 use Rattle.reference.specs.Records.{StepsAt, StepsOutermost}
 
 as-many : (C : Card) (all : List Tree) (n : ℕ) (xs : List Tree) → length (sites-from C all n xs) ≡ length (keep (redex C) xs)

@@ -14,10 +14,10 @@ use Rattle.rewriting.specs.Sites as sites
 use Rattle.rewriting.specs.Subterms as subterms
 use Rattle.reference.specs.declared.sheet.Row.{Row}
 use Rattle.reference.specs.declared.site.Site.{Site}
-use Rattle.reference.specs.declared.tree.Tree.{Tree}
-use Rattle.reference.specs.Meaning.{tree-of, listed}
+use Rattle.explicit.specs.declared.tree.Tree.{Tree}
+use Rattle.explicit.specs.Meaning.{tree-of, listed}
 use Rattle.reference.specs.Records.{site-of, row-of}
-use Rattle.reference.proofs.Loops.{reads, ends}
+use Rattle.explicit.proofs.Loops.{reads, ends}
 
 pushed : {X Y : Type 0} (f : X → Y) (xs : List X) (x : X) (rest : List Y) {grown : List X} {whole : List Y}
     → map f xs ++ (f x ∷ rest) ≡ whole → grown ≡ xs ++ (x ∷ []) → map f grown ++ rest ≡ whole

@@ -12,29 +12,14 @@ use Rattle.std.specs.declared.option.Option.{Option}
 use Rattle.std.specs.declared.option.Option.the-variants.{Some, None}
 use Rattle.std.proofs.shelf.Lists.{drop-more, map-push}
 use Rattle.rewriting.specs.Terms as theory
-use Rattle.rewriting.specs.Cards as cards
-use Rattle.rewriting.specs.Matching.{matches, fitting}
 use Rattle.rewriting.specs.Runs.{first-from}
 use Rattle.rewriting.specs.Sites.{any}
 use Rattle.rewriting.specs.Subterms.{member, add, place-of}
-use Rattle.reference.specs.declared.card.Rule.{Rule}
 use Rattle.reference.specs.declared.site.Site.{Site}
-use Rattle.reference.specs.declared.tree.Tree.{Tree}
-use Rattle.reference.specs.Meaning.{tree-of, term-of, rule-of, listed}
+use Rattle.explicit.specs.declared.tree.Tree.{Tree}
+use Rattle.explicit.specs.Meaning.{tree-of, listed}
 use Rattle.reference.specs.Records.{site-of}
-use Rattle.reference.proofs.Loops.{reads, ends}
-
-module _ (t : theory.Tree) (rs : List Rule) (i : ℕ) (r : Rule) (h : i < length rs) (e : r ≡ getD rs i r) where
-  pub fits-here : {y : Option cards.Rule} → true ≡ matches (term-of (r .left)) t → fitting (map rule-of (drop i rs)) t ≡ y → Some (rule-of r) ≡ y
-  fits-here test inv =
-      ap (λ b. elim b [ true ↦ Some (rule-of r) | false ↦ fitting (map rule-of (drop (i + 1) rs)) t ]) test
-      ∙ reads (λ qs. fitting (map rule-of qs) t) rs i r h e inv
-
-  pub fits-later : {y : Option cards.Rule} → false ≡ matches (term-of (r .left)) t → fitting (map rule-of (drop i rs)) t ≡ y
-      → fitting (map rule-of (drop (i + 1) rs)) t ≡ y
-  fits-later test inv =
-      ap (λ b. elim b [ true ↦ Some (rule-of r) | false ↦ fitting (map rule-of (drop (i + 1) rs)) t ]) test
-      ∙ reads (λ qs. fitting (map rule-of qs) t) rs i r h e inv
+use Rattle.explicit.proofs.Loops.{reads, ends}
 
 module _ (t : theory.Tree) (us : List (RefT Tree)) (i : ℕ) (u : RefT Tree) (h : i < length us) (e : u ≡ getD us i u) where
   pub member-here : {y : Bool} → true ≡ theory.same t (tree-of (now u)) → member t (listed (drop i us)) ≡ y → true ≡ y

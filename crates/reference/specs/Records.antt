@@ -1,7 +1,7 @@
--- What the program's sites, steps, rows and places stand for in the theory. Assumes nothing.
+-- What the program's sites, steps and rows stand for in the theory. Assumes nothing.
 use mathlib.Core.Path.{_≡_}
 use mathlib.Core.Bool.{true, false}
-use mathlib.Core.List.{List, [], _∷_, map, reverse}
+use mathlib.Core.List.{List, map}
 use Prim.Native.Nat.{ℕ, suc}
 use Rattle.std.specs.Of.Vec.{vec-items}
 use Rattle.std.specs.declared.option.Option.{Option}
@@ -9,17 +9,13 @@ use Rattle.std.specs.declared.option.Option.the-variants.{Some, None}
 use Rattle.rewriting.specs.Terms as theory
 use Rattle.rewriting.specs.Cards as cards
 use Rattle.rewriting.specs.Matching.{fitting}
-use Rattle.rewriting.specs.Places as places
 use Rattle.rewriting.specs.Runs.{at-rest, chosen, next, outermost}
 use Rattle.rewriting.specs.Sites as sites
 use Rattle.rewriting.specs.Subterms as subterms
-use Rattle.reference.specs.declared.place.Place.{Place}
-use Rattle.reference.specs.declared.place.Place.the-variants.{Symbol, Variable}
 use Rattle.reference.specs.declared.sheet.Row.{Row}
 use Rattle.reference.specs.declared.site.Site.{Site}
 use Rattle.reference.specs.declared.step.Step.{Step}
-use Rattle.reference.specs.declared.term.Term.{Term}
-use Rattle.reference.specs.Meaning.{term-of, tree-of}
+use Rattle.explicit.specs.Meaning.{tree-of}
 
 -- a site is its four parts
 abbrev pub site-of : Site → sites.Site
@@ -32,20 +28,6 @@ numbers-of order ts = map (λ c. suc (subterms.place-of c order)) (theory.to-lis
 -- a row of the sheet
 abbrev pub row-of : Row → subterms.Row
 row-of r = record { symbol = r .symbol; children = vec-items (r .children) }
-
--- an occurrence of a symbol or of a variable
-abbrev pub place-of : Place → places.Place
-place-of (Symbol f) = places.Symbol f
-place-of (Variable v) = places.Variable v
-
--- a stack's top stands last in its vector, and first in the theory's list
-abbrev pub stack-of : List Term → List theory.Term
-stack-of ts = map term-of (reverse ts)
-
--- what a list begins with
-abbrev pub first : {X : Type 0} → List X → Option X
-first [] = None
-first (x ∷ xs) = Some x
 
 -- the shared step of a tree at one of its redexes
 pub record StepsAt (C : cards.Card) (t redex : theory.Tree) (s : Step) : Type 0 where

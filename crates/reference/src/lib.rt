@@ -1,20 +1,11 @@
-// A plain term rewriter over explicit, unshared trees: what any cleverer rewriter can be compared with.
+// A plain rewriter over explicit, unshared trees: what any cleverer rewriter can be compared with.
 //
-// A `tree::Tree` is a symbol over its children and a `term::Term` may have variables in the place of trees. A
-// `card::Card` has symbols with names and arities, and numbered rules; `place::Place`s spell out its terms.
-// `matching` finds the rule that fits a tree, `subterm` lists distinct subterms in sheet order, `site` marks the redexes
-// among them, `step` does the outermost shared step, `sheet` gives the rows of a finished sheet and `text` writes a tree.
+// `subterm` lists distinct subterms in sheet order, `site` marks the redexes among them, `step` does the outermost shared
+// step, and `sheet` gives the rows of a finished sheet. Trees, cards and matching come from the crate `explicit`.
 //
-// Each function is proved to answer what the theory of the crate `rewriting` computes, through `specs/Meaning.antt` and
-// `specs/Records.antt`, which say what this crate's values stand for. What allocates may find no memory, and then says
-// so by `AllocError`; nothing else can fail. Trees are copied whole, so this is for small inputs.
-pub mod card;
-pub mod matching;
-pub mod place;
+// Each function is proved to answer what the theory of the crate `rewriting` computes. What allocates may find no memory,
+// and then says so by `AllocError`; nothing else can fail.
 pub mod sheet;
 pub mod site;
 pub mod step;
 pub mod subterm;
-pub mod term;
-pub mod text;
-pub mod tree;

@@ -2,15 +2,15 @@
 ghost use mathlib.Core.List.{_++_, map};
 ghost use mathlib.Core.Path.{_≡_};
 ghost use Prim.Native.Nat.{suc};
-ghost use Rattle.reference.specs.Meaning.{listed, tree-of, trees-of};
+ghost use Rattle.explicit.specs.Meaning.{listed, tree-of, trees-of};
 ghost use Rattle.reference.specs.Records.{numbers-of, row-of};
 ghost use Rattle.rewriting.specs.Subterms.{place-of, row, sheet as sheet-rows};
 ghost use Rattle.std.specs.Of.Vec.{vec-items};
 ghost use Rattle.std.specs.Vec.{made};
 use crate::subterm::subterms;
-use crate::tree::Tree;
-use crate::tree::Trees;
-use crate::tree::same;
+use explicit::tree::Tree;
+use explicit::tree::Trees;
+use explicit::tree::same;
 use std::alloc::AllocError;
 use std::alloc::Global;
 

@@ -2,7 +2,7 @@
 ghost use mathlib.Core.Bool.{not};
 ghost use mathlib.Core.List.{[], map};
 ghost use mathlib.Core.Path.{_≡_};
-ghost use Rattle.reference.specs.Meaning.{card-of, listed, tree-of, trees-of};
+ghost use Rattle.explicit.specs.Meaning.{card-of, listed, tree-of, trees-of};
 ghost use Rattle.reference.specs.Records.{site-of};
 ghost use Rattle.rewriting.specs.Matching.{fitting as fitting-rule};
 ghost use Rattle.rewriting.specs.Runs.{outermost as outermost-place};
@@ -11,12 +11,12 @@ ghost use Rattle.rewriting.specs.Sites.{redexes as redex-list, sites as site-li
 ghost use Rattle.rewriting.specs.Subterms.{member, walk, walks};
 ghost use Rattle.std.specs.Of.Vec.{vec-items};
 ghost use Rattle.std.specs.Vec.{made};
-use crate::card::Card;
-use crate::matching::fitting;
 use crate::subterm::subterms;
-use crate::tree::Tree;
-use crate::tree::Trees;
-use crate::tree::same;
+use explicit::card::Card;
+use explicit::matching::fitting;
+use explicit::tree::Tree;
+use explicit::tree::Trees;
+use explicit::tree::same;
 use std::alloc::AllocError;
 use std::alloc::Global;
 

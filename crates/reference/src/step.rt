@@ -1,6 +1,6 @@
 // One shared step: every occurrence of the chosen redex is replaced by its contractum.
 ghost use mathlib.Core.Path.{_≡_};
-ghost use Rattle.reference.specs.Meaning.{card-of, listed, tree-of, trees-of};
+ghost use Rattle.explicit.specs.Meaning.{card-of, listed, tree-of, trees-of};
 ghost use Rattle.reference.specs.Records.{Stepped, StepsAt};
 ghost use lib.ListN.{length};
 ghost use Prim.Native.Nat.{_<_};
@@ -8,17 +8,17 @@ ghost use Rattle.rewriting.specs.Runs.{chosen as chosen-tree, outermost as oute
 ghost use Rattle.rewriting.specs.Sites.{redexes as redex-list};
 ghost use Rattle.rewriting.specs.Sites.{contractum as contractum-tree, replace as replace-tree, replaces as replace-trees};
 ghost use Rattle.std.specs.Vec.{made};
-use crate::card::Card;
-use crate::matching::contracted;
-use crate::matching::fitting;
 use crate::site::fitting_number;
 use crate::site::outermost;
 use crate::site::redexes;
 use crate::site::sites;
-use crate::tree::Tree;
-use crate::tree::Trees;
-use crate::tree::copy;
-use crate::tree::same;
+use explicit::card::Card;
+use explicit::matching::contracted;
+use explicit::matching::fitting;
+use explicit::tree::Tree;
+use explicit::tree::Trees;
+use explicit::tree::copy;
+use explicit::tree::same;
 use std::alloc::AllocError;
 use std::alloc::Global;
 

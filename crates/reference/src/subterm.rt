@@ -1,13 +1,13 @@
 // The distinct subterms of a tree, in sheet order.
 ghost use mathlib.Core.Path.{_≡_};
-ghost use Rattle.reference.specs.Meaning.{listed, tree-of, trees-of};
+ghost use Rattle.explicit.specs.Meaning.{listed, tree-of, trees-of};
 ghost use Rattle.rewriting.specs.Subterms.{member as is-member};
 ghost use Rattle.rewriting.specs.Subterms.{subterms as subterm-list, walk as walk-tree, walks as walk-trees};
 ghost use Rattle.std.specs.Of.Vec.{vec-items};
 ghost use Rattle.std.specs.Vec.{made};
-use crate::tree::Tree;
-use crate::tree::Trees;
-use crate::tree::same;
+use explicit::tree::Tree;
+use explicit::tree::Trees;
+use explicit::tree::same;
 use std::alloc::AllocError;
 use std::alloc::Global;
 

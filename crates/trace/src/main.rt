@@ -1,15 +1,15 @@
 // Rewrites the tea card's recipe outermost and prints the recipe, each step, why it stopped, and the finished sheet.
 mod tea;
 
-use reference::card::Card;
-use reference::card::Symbol;
-use reference::card::name;
+use explicit::card::Card;
+use explicit::card::Symbol;
+use explicit::card::name;
+use explicit::text::line_of;
+use explicit::tree::Tree;
 use reference::sheet::Row;
 use reference::sheet::sheet;
 use reference::step::Step;
 use reference::step::outermost_step;
-use reference::text::line_of;
-use reference::tree::Tree;
 use std::alloc::Global;
 use std::error::AnyError;
 use std::str;

@@ -1,12 +1,12 @@
 // The tea card and its recipe, as places in preorder.
-use reference::card::Card;
-use reference::card::Rule;
-use reference::card::Symbol;
-use reference::place::Place;
-use reference::place::first_term;
-use reference::term::Term;
-use reference::term::ground;
-use reference::tree::Tree;
+use explicit::card::Card;
+use explicit::card::Rule;
+use explicit::card::Symbol;
+use explicit::place::Place;
+use explicit::place::first_term;
+use explicit::term::Term;
+use explicit::term::ground;
+use explicit::tree::Tree;
 use std::alloc::AllocError;
 use std::alloc::Global;
 use std::error::AnyError;

@@ -1,4 +1,4 @@
-use Rattle.reference.specs.Meaning.{tree-of}
+use Rattle.explicit.specs.Meaning.{tree-of}
 use Rattle.reference.proofs.Searches.{place-here, place-later, place-ends}
 use Rattle.reference.proofs.sheet.number_of.Needs as need
 

@@ -2,7 +2,7 @@ use mathlib.Core.Path.{_≡_}
 use Prim.Native.Nat.{_+_}
 use lib.ListN.{drop}
 use Rattle.rewriting.specs.Subterms as theory
-use Rattle.reference.specs.Meaning.{tree-of, listed}
+use Rattle.explicit.specs.Meaning.{tree-of, listed}
 use Rattle.reference.proofs.sheet.number_of.Given as given
 
 abbrev pub Inv-loop-i : given.InvT-loop-i

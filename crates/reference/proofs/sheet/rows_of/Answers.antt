@@ -2,7 +2,7 @@ use mathlib.Core.Path.{refl}
 use mathlib.Core.List.{map}
 use Rattle.std.specs.Of.Vec.{vec-items}
 use Rattle.rewriting.specs.Subterms as theory
-use Rattle.reference.specs.Meaning.{listed}
+use Rattle.explicit.specs.Meaning.{listed}
 use Rattle.reference.specs.Records.{row-of}
 use Rattle.reference.proofs.Collections.{all-made, row-made}
 use Rattle.reference.proofs.sheet.rows_of.Needs as need

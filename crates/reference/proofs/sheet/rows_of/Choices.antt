@@ -3,7 +3,7 @@ use mathlib.Core.List.{_++_, map}
 use lib.ListN.{drop}
 use Rattle.std.specs.Of.Vec.{vec-items}
 use Rattle.rewriting.specs.Subterms as theory
-use Rattle.reference.specs.Meaning.{listed}
+use Rattle.explicit.specs.Meaning.{listed}
 use Rattle.reference.specs.Records.{row-of}
 use Rattle.reference.proofs.sheet.rows_of.Given as given
 

@@ -1,4 +1,4 @@
-use Rattle.reference.specs.Meaning.{tree-of}
+use Rattle.explicit.specs.Meaning.{tree-of}
 use Rattle.reference.proofs.Below.{within-here, within-later, below-here, below-later}
 use Rattle.reference.proofs.site.+is_below+is_within.Needs as need
 

@@ -1,7 +1,7 @@
 use mathlib.Core.Path.{_≡_}
 use lib.ListN.{drop}
 use Rattle.rewriting.specs.Sites as theory
-use Rattle.reference.specs.Meaning.{tree-of, listed}
+use Rattle.explicit.specs.Meaning.{tree-of, listed}
 use Rattle.reference.proofs.site.is_inner.Given as given
 
 -- the redexes that are left decide

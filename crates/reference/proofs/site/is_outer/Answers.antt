@@ -1,8 +1,8 @@
 use mathlib.Core.Bool.{not}
 use mathlib.Core.Path.{ap}
 use Rattle.rewriting.specs.Sites as theory
-use Rattle.reference.specs.Meaning.{listed, tree-of}
-use Rattle.reference.proofs.Loops.{ends}
+use Rattle.explicit.specs.Meaning.{listed, tree-of}
+use Rattle.explicit.proofs.Loops.{ends}
 use Rattle.reference.proofs.Searches.{any-here, any-later}
 use Rattle.reference.proofs.site.is_outer.Needs as need
 

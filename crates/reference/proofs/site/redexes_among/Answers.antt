@@ -1,7 +1,7 @@
 use mathlib.Core.Path.{refl, ap, _∙_}
 use Rattle.std.specs.Of.Vec.{vec-items}
 use Rattle.rewriting.specs.Sites as theory
-use Rattle.reference.specs.Meaning.{card-of, listed}
+use Rattle.explicit.specs.Meaning.{card-of, listed}
 use Rattle.reference.proofs.Collections.{all-made, keeps, skips}
 use Rattle.reference.proofs.site.redexes_among.Needs as need
 use Rattle.reference.proofs.site.redexes_among.Needs.{then-is-redex·in-Continue-push, else-is-redex}

@@ -3,7 +3,7 @@ use mathlib.Core.List.{_++_}
 use lib.ListN.{drop}
 use Rattle.std.specs.Of.Vec.{vec-items}
 use Rattle.rewriting.specs.Sites as theory
-use Rattle.reference.specs.Meaning.{card-of, listed}
+use Rattle.explicit.specs.Meaning.{card-of, listed}
 use Rattle.reference.proofs.site.redexes_among.Given as given
 
 abbrev pub Inv-loop-x : given.InvT-loop-x

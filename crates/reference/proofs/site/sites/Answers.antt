@@ -1,7 +1,7 @@
 use mathlib.Core.Path.{sym, ap, _∙_}
 use Rattle.std.proofs.shelf.Results.{made-weaker}
 use Rattle.rewriting.specs.Sites.{keep, redex}
-use Rattle.reference.specs.Meaning.{card-of, tree-of, listed}
+use Rattle.explicit.specs.Meaning.{card-of, tree-of, listed}
 use Rattle.reference.proofs.Choosing.{sites-are}
 use Rattle.reference.proofs.site.sites.Needs as need
 

@@ -3,7 +3,7 @@ use mathlib.Core.List.{map}
 use Prim.Native.Nat.{_+_}
 use Rattle.std.specs.Of.Vec.{vec-items}
 use Rattle.rewriting.specs.Sites as theory
-use Rattle.reference.specs.Meaning.{card-of, listed}
+use Rattle.explicit.specs.Meaning.{card-of, listed}
 use Rattle.reference.specs.Records.{site-of}
 use Rattle.reference.proofs.Collections.{all-made, site-made, site-is, no-site}
 use Rattle.reference.proofs.site.sites_among.Needs as need

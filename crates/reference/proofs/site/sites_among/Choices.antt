@@ -4,7 +4,7 @@ use Prim.Native.Nat.{_+_}
 use lib.ListN.{drop}
 use Rattle.std.specs.Of.Vec.{vec-items}
 use Rattle.rewriting.specs.Sites as theory
-use Rattle.reference.specs.Meaning.{card-of, listed}
+use Rattle.explicit.specs.Meaning.{card-of, listed}
 use Rattle.reference.specs.Records.{site-of}
 use Rattle.reference.proofs.site.sites_among.Given as given
 

@@ -5,7 +5,7 @@ use mathlib.Core.Path.{_≡_}
 use lib.ListN.{length}
 use borrow.Author.Tests.{tests}
 use Rattle.std.specs.Of.Vec.{vec-items}
-use Rattle.reference.specs.Meaning.{card-of, tree-of}
+use Rattle.explicit.specs.Meaning.{card-of, tree-of}
 use Rattle.reference.proofs.Choosing.{rests, goes, steps-outermost}
 use Rattle.reference.proofs.step.outermost_step.Needs as need
 

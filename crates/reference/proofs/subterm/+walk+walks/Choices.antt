@@ -1,5 +1,5 @@
-use Rattle.reference.proofs.tree.Tree.the-laws as tree
-use Rattle.reference.proofs.tree.Trees.the-laws as trees
+use Rattle.explicit.proofs.tree.Tree.the-laws as tree
+use Rattle.explicit.proofs.tree.Trees.the-laws as trees
 use Rattle.reference.proofs.subterm.+walk+walks.Given as given
 
 abbrev pub μ-walk : given.MeasureT-walk

@@ -1,6 +1,6 @@
 use Rattle.rewriting.specs.Subterms as theory
-use Rattle.reference.specs.Meaning.{tree-of, listed}
-use Rattle.reference.proofs.Loops.{ends}
+use Rattle.explicit.specs.Meaning.{tree-of, listed}
+use Rattle.explicit.proofs.Loops.{ends}
 use Rattle.reference.proofs.Searches.{member-here, member-later}
 use Rattle.reference.proofs.subterm.member.Needs as need
 

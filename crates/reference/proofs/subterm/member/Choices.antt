@@ -1,7 +1,7 @@
 use mathlib.Core.Path.{_≡_}
 use lib.ListN.{drop}
 use Rattle.rewriting.specs.Subterms as theory
-use Rattle.reference.specs.Meaning.{tree-of, listed}
+use Rattle.explicit.specs.Meaning.{tree-of, listed}
 use Rattle.reference.proofs.subterm.member.Given as given
 
 -- the trees that are left decide

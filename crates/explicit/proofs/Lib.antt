@@ -1,0 +1,4 @@
+pub mod Loops
+pub mod Fitting
+pub mod Lines
+pub mod Stacks
