@@ -7,3 +7,5 @@ pub mod Heads
 pub mod Children
 pub mod SymbolLines
 pub mod RuleLines
+pub mod SymbolForms
+pub mod RuleForms

@@ -403,15 +403,27 @@ module _ (G : Grammar) where
   peels-all zero = (peel-none, peel-rest-none)
   peels-all (suc n) = let r = peels-all n in (peel-more n (r .0) (r .1), peel-rest-more n (r .0) (r .1))
 
-  pub text-peeled : (text : List ℕ) (ps : List Place) → scan G (at-start []) [] text ≡ whole ps [] → TextOf G text ps
-  text-peeled text ps e =
-      let p = peels-all (length text) .0 text (omega arith) [] [] ps [] (omega arith) e in
+  -- a text that is read to a whole term, with a rest behind it
+  pub record Front (text : List ℕ) (ps : List Place) (rest : List ℕ) : Type 0 where
+    pub term : Term
+    pub allowed : Allowed G term
+    pub spelled : text ≡ written ss term ++ rest
+    pub places-are : ps ≡ map stored (theory.places term)
+
+  pub front-peeled : (text : List ℕ) (ps : List Place) (rest : List ℕ) → scan G (at-start []) [] text ≡ whole ps rest → Front text ps rest
+  front-peeled text ps rest e =
+      let p = peels-all (length text) .0 text (omega arith) [] [] ps rest (omega arith) e in
       let w = sym (behind-top G (map stored (theory.places (p .term))) (p .back)) ∙ p .goes in
       let same : map stored (theory.places (p .term)) ≡ ps = cc in
-      let over : p .back ≡ [] = cc in
+      let over : p .back ≡ rest = cc in
       record {
         term = p .term;
         allowed = record { on = p .on; variables = p .variables; few-places = omega (arith, p .places-left); few-brackets = omega (arith, p .brackets-left) };
-        spelled = p .spelled ∙ (ap (λ x. written ss (p .term) ++ x) over ∙ append-nil (written ss (p .term)));
+        spelled = p .spelled ∙ ap (λ x. written ss (p .term) ++ x) over;
         places-are = sym same;
       }
+
+  pub text-peeled : (text : List ℕ) (ps : List Place) → scan G (at-start []) [] text ≡ whole ps [] → TextOf G text ps
+  text-peeled text ps e =
+      let f = front-peeled text ps [] e in
+      record { term = f .term; allowed = f .allowed; spelled = f .spelled ∙ append-nil (written ss (f .term)); places-are = f .places-are }

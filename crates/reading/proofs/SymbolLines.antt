@@ -21,14 +21,14 @@ use Rattle.reading.specs.Sources.{at-letter, next-is, unexpected, Taken, NameT
 use Rattle.reading.specs.Lines.{Line, taken, broken, symbol-digit, symbol-new, symbol-slash, symbol-name, symbol-line}
 
 module _ (ss : List SymbolRecord) where
-  name-takes : (w v rest : List ℕ) → All (λ b. letter b ≡ true) v → length w + length v ≤ 12 → symbol-name ss w (v ++ rest) ≡ symbol-name ss (w ++ v) rest
+  pub name-takes : (w v rest : List ℕ) → All (λ b. letter b ≡ true) v → length w + length v ≤ 12 → symbol-name ss w (v ++ rest) ≡ symbol-name ss (w ++ v) rest
   name-takes w [] rest all h = ap (λ u. symbol-name ss u rest) (sym (append-nil w))
   name-takes w (b ∷ v) rest all h =
       let f : leb 12 (length w) ≡ false = lt-leb 12 (length w) (omega arith) in
       rw (all .0, symbol-name) (rw f
       (name-takes (w ++ (b ∷ [])) v rest (all .1) (omega (arith, length-append w (b ∷ []))) ∙ ap (λ u. symbol-name ss u rest) (append-assoc w (b ∷ []) v)))
 
-  name-over : (w rest : List ℕ) → at-letter rest ≡ false → symbol-name ss w rest ≡ symbol-slash ss w rest
+  pub name-over : (w rest : List ℕ) → at-letter rest ≡ false → symbol-name ss w rest ≡ symbol-slash ss w rest
   name-over w [] l = refl
   name-over w (b ∷ bs) l = rw (l, symbol-name)
 
@@ -45,7 +45,7 @@ module _ (ss : List SymbolRecord) where
   no-letters [] = refl
   no-letters (b ∷ bs) = refl
 
-  slash : (w rest : List ℕ) → (0 < length w) → next-is 47 rest ≡ true → symbol-slash ss w rest ≡ symbol-new (find-from (filled w) 0 ss) (filled w) 47 (drop 1 rest)
+  pub slash : (w rest : List ℕ) → (0 < length w) → next-is 47 rest ≡ true → symbol-slash ss w rest ≡ symbol-new (find-from (filled w) 0 ss) (filled w) 47 (drop 1 rest)
   slash [] rest h n = absurd (omega arith)
   slash (x ∷ w) [] h n = absurd (true≢false (sym n))
   slash (x ∷ w) (b ∷ bs) h n = rw (n, symbol-slash) (ap (λ y. symbol-new (find-from (filled (x ∷ w)) 0 ss) (filled (x ∷ w)) y bs) (eqb-true b 47 n))
@@ -60,7 +60,7 @@ module _ (ss : List SymbolRecord) where
   first-letter (x ∷ w) ne = omega arith
 
   module _ (room : length ss < 64) (before after : List ℕ) where
-    open-line : symbol-line ss before ≡ symbol-name ss [] before
+    pub open-line : symbol-line ss before ≡ symbol-name ss [] before
     open-line = let f : leb 64 (length ss) ≡ false = lt-leb 64 (length ss) room in rw (f, symbol-line)
 
     pub long-name : NameGoesOn before after → broken NameTooLong after ≡ symbol-line ss before

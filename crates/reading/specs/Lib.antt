@@ -1,3 +1,4 @@
+pub mod CardLines
 pub mod Faults
 pub mod Grammars
 pub mod Lines

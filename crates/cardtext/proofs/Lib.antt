@@ -1,0 +1,3 @@
+pub mod Cleaning
+pub mod Splitting
+pub mod Together

@@ -1,0 +1,3 @@
+pub mod Cleaning
+pub mod Lines
+pub mod Cursors
