@@ -2,6 +2,7 @@
 ghost use mathlib.Core.List.{List};
 ghost use mathlib.Core.Path.{_≡_};
 ghost use Prim.Native.Nat.{ℕ, _+_};
+ghost use lib.Dec.{leb};
 ghost use lib.ListN.{length, replicate, take};
 ghost use Rattle.std.specs.Results.{Cases};
 ghost use Rattle.card.specs.Records.{blank-rule, blank-symbol, Kept};
@@ -163,6 +164,13 @@ impl SymbolDraft {
 }
 
 impl RuleDraft {
+    // Whether one symbol more would be too many.
+    pub fn has_all_symbols(&self) -> bool
+        ensures { λ r. ⌜ r ≡ leb 64 (now (self .entry) .symbols) ⌝ }
+    {
+        self.symbols >= 64
+    }
+
     // A rule line: its record is written behind the others.
     pub fn take<S: Source>(
         &mut self,

@@ -1,0 +1,4 @@
+pub mod Takes
+pub mod LineSteps
+pub mod Handing
+pub mod Cleaned

@@ -1,0 +1,4 @@
+pub mod CardTexts
+pub mod Taking
+pub mod Reading
+pub mod Calls
