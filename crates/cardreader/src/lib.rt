@@ -4,6 +4,7 @@
 // a "=", rule lines from there on, empty lines skipped but counted. `lines` takes lines, `phases` leads a draft from its start
 // to the card or tears it up, and `reader` has the call.
 pub mod fault;
+pub mod laws;
 mod lines;
 mod phases;
 pub mod reader;
