@@ -1,11 +1,18 @@
-// Rewrites the tea card's recipe outermost and prints the recipe, each step, why it stopped, and the finished sheet.
-mod tea;
+// Rewrites a recipe outermost by the rules of a card, and prints the recipe, each step, why it stopped, and the finished
+// sheet; or why the card or the recipe is refused.
+mod input;
 
+use card::record::Place;
+use card::record::RuleRecord;
+use card::record::SymbolRecord;
+use card::refusal::Refusal;
+use cardreader::reader::read_card;
 use explicit::card::Card;
 use explicit::card::Symbol;
 use explicit::card::name;
 use explicit::text::line_of;
 use explicit::tree::Tree;
+use reading::recipe::read_recipe;
 use reference::sheet::Row;
 use reference::sheet::sheet;
 use reference::step::Step;
@@ -89,12 +96,46 @@ fn print_sheet(rt: &LibcRuntime, symbols: &[Symbol], rows: &[Row]) -> Result<(),
     Ok(())
 }
 
-fn main(rt: LibcRuntime) -> Result<(), AnyError> {
+fn print_refusal(rt: &LibcRuntime, refusal: Refusal, line: usize) -> Result<(), AnyError> {
+    let number = refusal.number();
+    println!(rt, "refused {number} line {line}")?;
+    Ok(())
+}
+
+// Reads the recipe on an accepted card, and rewrites it.
+fn run(rt: &LibcRuntime, records: &[SymbolRecord], card: &Card) -> Result<(), AnyError> {
     let heap = rt.alloc();
-    let card = tea::card(heap)?;
-    let recipe = tea::recipe(heap, &card.symbols)?;
+    let mut places = [Place::Empty; 4096];
+    let count = match read_recipe(&input::recipe_text(rt)?, records, &mut places) {
+        Ok(count) => count,
+        Err(refusal) => return print_refusal(rt, refusal, 0),
+    };
+    let recipe = input::recipe(heap, &card.symbols, &places[0..count])?;
     rt.println(text_of(heap, &card.symbols, &recipe)?)?;
-    let tree = rewrite(&rt, &card, recipe)?;
+    let tree = rewrite(rt, card, recipe)?;
     let rows = sheet(heap, &tree)?;
-    print_sheet(&rt, &card.symbols, &rows)
+    print_sheet(rt, &card.symbols, &rows)
+}
+
+fn main(rt: LibcRuntime) -> Result<(), AnyError> {
+    let mut buffer = [0; 16384];
+    let mut symbols = [SymbolRecord {
+        name: [0; 12],
+        arity: 0,
+    }; 64];
+    let mut rules = [RuleRecord {
+        left: [Place::Empty; 32],
+        right: [Place::Empty; 32],
+    }; 64];
+    let text = input::card_text(&rt)?;
+    match read_card(&text, &mut buffer, &mut symbols, &mut rules) {
+        Ok(counts) => {
+            let symbol_count = counts.symbols;
+            let rule_count = counts.rules;
+            let records = &symbols[0..symbol_count];
+            let card = input::card(rt.alloc(), records, &rules[0..rule_count])?;
+            run(&rt, records, &card)
+        }
+        Err(fault) => print_refusal(&rt, fault.refusal, fault.line),
+    }
 }
