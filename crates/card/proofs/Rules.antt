@@ -141,12 +141,12 @@ rule_on_card Σ n r w =
 module _ (Σ : theory.Signature) where
   rules_on_card : (n : ℕ) (rs : List RuleRecord) → All (WellFormedRule Σ) rs → (q : theory.Rule)
       → Memᴰ q (rules_from Σ n rs) → theory.WellFormedRule Σ q
-  rules_on_card n [] h q m = absurd (Memᴰ.not_nil m)
+  rules_on_card n [] h q m = absurd (Memᴰ.not-nil m)
   rules_on_card n (r ∷ rs) h q (Memᴰ.head e) = subst (theory.WellFormedRule Σ) (sym e) (rule_on_card Σ n r h.0)
   rules_on_card n (r ∷ rs) h q (Memᴰ.tail m) = rules_on_card (suc n) rs h.1 q m
 
   numbered_from : (n : ℕ) (rs : List RuleRecord) (q : theory.Rule) → Memᴰ q (rules_from Σ n rs) → n ≤ q.number
-  numbered_from n [] q m = absurd (Memᴰ.not_nil m)
+  numbered_from n [] q m = absurd (Memᴰ.not-nil m)
   numbered_from n (r ∷ rs) q (Memᴰ.head e) = omega (arith, ap (λ x. x.number) e)
   numbered_from n (r ∷ rs) q (Memᴰ.tail m) = omega (arith, numbered_from (suc n) rs q m)
 

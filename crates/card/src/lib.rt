@@ -5,6 +5,9 @@
 // counts of an accepted card, and `Refusal` is every way in which a call of the product can be turned away.
 // `check::keeps_rules` is the test, `name::find` gives the number of a symbol by its name, and `laws` has what the records
 // of a tested card are good for: they make a well-formed card of the theory.
+
+#![tactic(auto)]
+
 pub mod check;
 pub mod laws;
 pub mod name;

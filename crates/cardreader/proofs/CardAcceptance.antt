@@ -1,7 +1,7 @@
 -- A card text is accepted exactly if its lines are those of a card. Assumes nothing.
 use Rattle.std.proofs.Common.{◌≡◌, ℕ, suc, ◌+◌, ◌<◌, ◌≤◌, Bool, true, false, ◌&&◌, ◌||◌, eqb, leb, List, [], ◌∷◌, ◌++◌, length, get_or, take, drop, set, replicate, sym, refl, ap, ◌∙◌, subst, ap₂, append_assoc, append-nil, zero-add, add-one, arith, length-append, length-set}
-use lib.ListN.{get_or_append}
-use lib.Seq.{take_append_seam}
+use lib.ListN.{get_or-append}
+use lib.Seq.{take-append_seam}
 use Rattle.std.specs.List.{AllByRecursion as All}
 use Rattle.std.proofs.lemmas.List.{take_more_set, take-append-drop, length-take-le}
 use Rattle.std.proofs.lemmas.Bool.{leb-true, and_parts, ne_eqb}
@@ -71,7 +71,7 @@ module _ (ss : List SymbolRecord) (m : ℕ) (rs : List RuleRecord) (k : ℕ) (fe
   symbol_lacked s symbols distinct i h e =
       let n : length (take m ss) ≡ m = length-take-le m ss (omega arith) in
       let all = length-append (take m ss) (s ∷ symbols) in
-      let early : get_or (take m ss ++ (s ∷ symbols)) i blank_symbol ≡ get_or (take m ss) i blank_symbol = get_or_append (take m ss) (s ∷ symbols) blank_symbol i h in
+      let early : get_or (take m ss ++ (s ∷ symbols)) i blank_symbol ≡ get_or (take m ss) i blank_symbol = get_or-append (take m ss) (s ∷ symbols) blank_symbol i h in
       let here : get_or (take m ss ++ (s ∷ symbols)) (length (take m ss)) blank_symbol ≡ s = getD_seam (take m ss) s symbols in
       distinct i (length (take m ss)) h (omega arith) (ap (λ (x : SymbolRecord). x.name) early ∙ (e ∙ ap (λ (x : SymbolRecord). x.name) (sym here)))
     where
@@ -151,8 +151,8 @@ text_states text ss ss' rs rs' card long_symbols long_rules e =
     let all : 0 + length t.symbols ≡ length t.symbols = zero-add (length t.symbols) in
     let counted : card ≡ counts (length t.symbols) (length t.rules) = t.counted ∙ ap (λ i. counts i (length t.rules)) all in
     let symbols_are : ss' ≡ t.symbols ++ drop (length t.symbols) ss = t.symbols_are ∙ ap (λ i. t.symbols ++ drop i ss) all in
-    let front : take card.symbols ss' ≡ t.symbols = ap₂ take (ap (λ (c : Card). c.symbols) counted) symbols_are ∙ take_append_seam t.symbols (drop (length t.symbols) ss) in
-    let front_rules : take card.rules rs' ≡ t.rules = ap₂ take (ap (λ (c : Card). c.rules) counted) t.rules_are ∙ take_append_seam t.rules (drop (length t.rules) rs) in
+    let front : take card.symbols ss' ≡ t.symbols = ap₂ take (ap (λ (c : Card). c.symbols) counted) symbols_are ∙ take-append_seam t.symbols (drop (length t.symbols) ss) in
+    let front_rules : take card.rules rs' ≡ t.rules = ap₂ take (ap (λ (c : Card). c.rules) counted) t.rules_are ∙ take-append_seam t.rules (drop (length t.rules) rs) in
     record {
       symbols = t.symbols;
       rules = t.rules;
@@ -185,6 +185,6 @@ cards_have_different_texts ls symbols symbols' rules rules' w w' =
     let card_same : counts (length symbols) (length rules) ≡ counts (length symbols') (length rules') = cc in
     let symbols_same : symbols ++ drop (length symbols) ss ≡ symbols' ++ drop (length symbols') ss = cc in
     let rules_same : rules ++ drop (length rules) rs ≡ rules' ++ drop (length rules') rs = cc in (
-      sym (take_append_seam symbols (drop (length symbols) ss)) ∙ (ap₂ take (ap (λ (c : Card). c.symbols) card_same) symbols_same ∙ take_append_seam symbols' (drop (length symbols') ss)),
-      sym (take_append_seam rules (drop (length rules) rs)) ∙ (ap₂ take (ap (λ (c : Card). c.rules) card_same) rules_same ∙ take_append_seam rules' (drop (length rules') rs)),
+      sym (take-append_seam symbols (drop (length symbols) ss)) ∙ (ap₂ take (ap (λ (c : Card). c.symbols) card_same) symbols_same ∙ take-append_seam symbols' (drop (length symbols') ss)),
+      sym (take-append_seam rules (drop (length rules) rs)) ∙ (ap₂ take (ap (λ (c : Card). c.rules) card_same) rules_same ∙ take-append_seam rules' (drop (length rules') rs)),
     )

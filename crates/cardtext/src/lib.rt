@@ -6,6 +6,8 @@
 // line. `laws` has what cleaning and splitting are good for.
 //
 // The reader of whole cards, which drives drafts over these lines, is to stand above this crate and is no part of it.
+
+#![tactic(auto)]
 pub mod clean;
 pub mod cursor;
 pub mod laws;

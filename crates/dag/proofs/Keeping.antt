@@ -22,7 +22,7 @@ compacted_compact ts ts' roots roots' c = c.counted ∙ ap (λ os. distinct_coun
 -- a root's tree is the tree of a record
 root_tree_there : (ts : List Tree) (xs : List Tree) (roots : List (Option ℕ)) → ((i k : ℕ) → i < length roots → get_or roots i None ≡ Some k → Memᴰ (tree_at ts k) xs)
     → (s : Tree) → Memᴰ s (to_list (root_trees ts roots)) → Memᴰ s xs
-root_tree_there ts xs [] h s m = absurd (Memᴰ.not_nil m)
+root_tree_there ts xs [] h s m = absurd (Memᴰ.not-nil m)
 root_tree_there ts xs (None ∷ os) h s m = root_tree_there ts xs os (λ i k l e. h (suc i) k (omega arith) e) s m
 root_tree_there ts xs (Some k ∷ os) h s m =
     ⊎_elim (λ e. Memᴰ.cast e (h 0 k (omega arith) refl)) (root_tree_there ts xs os (λ i x l e. h (suc i) x (omega arith) e) s) (Memᴰ.cases_cons m)

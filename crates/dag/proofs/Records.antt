@@ -51,7 +51,7 @@ to_list_from_list [] = refl
 to_list_from_list (t ∷ ts) = ap (λ xs. t ∷ xs) (to_list_from_list ts)
 
 pub over_mem : (ts : List Tree) (ks : List ℕ) → All (λ k. k < length ts) ks → (c : Tree) → Memᴰ c (map (tree_at ts) ks) → Memᴰ c ts
-over_mem ts [] h c m = absurd (mathlib.Core.List.Memᴰ.not_nil m)
+over_mem ts [] h c m = absurd (mathlib.Core.List.Memᴰ.not-nil m)
 over_mem ts (k ∷ ks) h c m =
     ⊎_elim (λ e. mathlib.Core.List.Memᴰ.cast e (place_mem blank_tree ts k h.0)) (λ n. over_mem ts ks h.1 c n) (mathlib.Core.List.Memᴰ.cases_cons m)
 

@@ -21,7 +21,7 @@ use Rattle.dag.proofs.Records.{trees_grown}
 use Rattle.dag.proofs.Shapes.{children_all, children_each}
 
 pub slide_starts : (ts : List Tree) (marks numbers : List ℕ) → Slid ts marks 0 [] numbers
-slide_starts ts marks numbers = record { placed = λ k h m. absurd (omega arith); only = λ s m. absurd (Memᴰ.not_nil m) }
+slide_starts ts marks numbers = record { placed = λ k h m. absurd (omega arith); only = λ s m. absurd (Memᴰ.not-nil m) }
 
 module _ (ts : List Tree) (marks : List ℕ) (i : ℕ) (ts' : List Tree) (numbers : List ℕ) (s : Slid ts marks i ts' numbers) where
   -- records that were slid have their trees under their new numbers

@@ -131,7 +131,7 @@ mutual
       ⊎_elim (λ e. let z : ◌≡◌ {A = ℕ} 0 1 = cc in absurd (omega arith)) (λ k. variable_occurs_in v ts k) (Memᴰ.cases_cons m)
 
   variable_occurs_in : (v : ℕ) (ts : Terms) → Memᴰ (Variable v) (places_of ts) → occurs_in v ts ≡ true
-  variable_occurs_in v nilᵗ m = absurd (Memᴰ.not_nil m)
+  variable_occurs_in v nilᵗ m = absurd (Memᴰ.not-nil m)
   variable_occurs_in v (consᵗ t ts) m =
       ⊎_elim (λ k. or_left (occurs v t) (occurs_in v ts) (variable_occurs v t k)) (λ k. or_right (occurs v t) (occurs_in v ts) (variable_occurs_in v ts k))
       (Memᴰ.append_cases (places t) m)

@@ -23,9 +23,9 @@ walk_starts ts marks order m o c =
       filled = omega arith;
       records = tt;
       distinct = λ d i j h k e. absurd (omega arith);
-      children_there = λ s c h k. absurd (Memᴰ.not_nil h);
+      children_there = λ s c h k. absurd (Memᴰ.not-nil h);
       marked = λ k h ne. absurd (ne (c k (omega arith)));
-      unmarked = λ k h e n. Memᴰ.not_nil n;
+      unmarked = λ k h e n. Memᴰ.not-nil n;
     }
 
 pub length_listed : (ts : List Tree) (order : List ℕ) (n : ℕ) → n ≤ length order → length (listed ts order n) ≡ n

@@ -9,6 +9,8 @@
 // Nothing here allocates: the rows and all work tables are handed in. With no room a call changes no record in use, and its
 // promise says that the trees are then too many for the table. Which symbols there are is asked of a `signature::Signature`;
 // that trees are trees of a card, who the roots are, and what is printed is left to others.
+
+#![tactic(auto)]
 pub mod build;
 pub mod compact;
 pub mod laws;

@@ -1,6 +1,6 @@
 -- A line that is taken keeps the card's rules. Assumes nothing.
 use Rattle.std.proofs.Common.{◌≡◌, ℕ, ◌+◌, ◌<◌, ◌≤◌, ◌⊎◌, List, [], ◌∷◌, ◌++◌, length, get_or, take, set, sym, refl, ap, ◌∙◌, subst, inl, inr, ⊎_elim, arith, length-set}
-use lib.ListN.{get_or_append}
+use lib.ListN.{get_or-append}
 use Rattle.std.proofs.lemmas.List.{take_more_set, length-take-le, get_or_push, length_push}
 use Rattle.std.proofs.ByRecursion.{All-push}
 use Rattle.std.proofs.lemmas.Bool.{cases_lt}
@@ -17,10 +17,10 @@ distinct_push : (ss : List SymbolRecord) (s : SymbolRecord) → DistinctNames ss
 distinct_push ss s d new i j l h e =
     let n : length (ss ++ (s ∷ [])) ≡ length ss + 1 = length_push ss s in
     ⊎_elim
-    (λ early. d i j l early (ap (λ (x : SymbolRecord). x.name) (sym (get_or_append ss (s ∷ []) blank_symbol i (omega arith))) ∙ (e ∙ ap (λ (x : SymbolRecord). x.name) (get_or_append ss (s ∷ []) blank_symbol j early))))
+    (λ early. d i j l early (ap (λ (x : SymbolRecord). x.name) (sym (get_or-append ss (s ∷ []) blank_symbol i (omega arith))) ∙ (e ∙ ap (λ (x : SymbolRecord). x.name) (get_or-append ss (s ∷ []) blank_symbol j early))))
     (λ late. let at : j ≡ length ss = omega arith in
     let here : get_or (ss ++ (s ∷ [])) j blank_symbol ≡ s = get_or_push ss s blank_symbol j (sym at) in
-    new i (omega arith) (ap (λ (x : SymbolRecord). x.name) (sym (get_or_append ss (s ∷ []) blank_symbol i (omega arith))) ∙ (e ∙ ap (λ (x : SymbolRecord). x.name) here)))
+    new i (omega arith) (ap (λ (x : SymbolRecord). x.name) (sym (get_or-append ss (s ∷ []) blank_symbol i (omega arith))) ∙ (e ∙ ap (λ (x : SymbolRecord). x.name) here)))
     (cases_lt j (length ss))
 
 pub symbol_keeps : (m : ℕ) (text : List ℕ) (rs : List RuleRecord) (before after : List SymbolRecord) → SymbolTaken m text rs before after → Kept after rs (counts (m + 1) 0)

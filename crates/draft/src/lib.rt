@@ -7,6 +7,8 @@
 //
 // A draft is spent by accepting or tearing it up. Letting one go asks for what nobody can show, so a program that forgets a
 // draft on some way out is not proved; and a `RuleDraft` has no call that takes a symbol, so that one is no program at all.
+
+#![tactic(auto)]
 pub mod draft;
 pub mod laws;
 pub mod wipe;

@@ -6,4 +6,6 @@
 //
 // Each function is proved to answer what the theory of the crate `rewriting` computes. Only `contracted` allocates, and it
 // says so by `AllocError` if there is no memory; nothing else can fail.
+
+#![tactic(auto)]
 pub mod rule;

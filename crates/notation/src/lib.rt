@@ -5,5 +5,7 @@
 //
 // Terms are proved to be those that the theory of the crate `rewriting` computes, and a text to be the one that
 // `specs/Text.antt` defines. What allocates may find no memory, and then says so by `AllocError`; nothing else can fail.
+
+#![tactic(auto)]
 pub mod place;
 pub mod text;

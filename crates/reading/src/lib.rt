@@ -8,6 +8,8 @@
 // The readers are proved against a byte automaton (`specs/Scanning.antt`, `specs/Lines.antt`), which settles every fault at
 // the earliest byte by its very shape. Above it stand the laws in `laws`: a text is accepted exactly if it is the written
 // form of a term inside the limits, and no two terms share a text. Cleaning, cutting into lines and tables are left to others.
+
+#![tactic(auto)]
 pub mod fault;
 pub mod grammar;
 pub mod laws;

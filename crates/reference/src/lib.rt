@@ -5,4 +5,6 @@
 //
 // Each function is proved to answer what the theory of the crate `rewriting` computes. What allocates may find no memory,
 // and then says so by `AllocError`; nothing else can fail.
+
+#![tactic(auto)]
 pub mod step;

@@ -1,12 +1,12 @@
 -- The computed match is the only one, and the first rule that fits is the lowest-numbered. Assumes nothing.
-use Rattle.std.proofs.Common.{◌≡◌, ℕ, ◌<◌, ◌≤◌, Bool, true, false, ◌||◌, eqb, List, [], ◌∷◌, Some, None, Option, unwrap_or, sym, refl, ap, ◌∙◌, subst, ap₂, arith, MatchOption}
+use Rattle.std.proofs.Common.{◌≡◌, ℕ, ◌≤◌, Bool, true, false, ◌||◌, eqb, List, [], ◌∷◌, Some, None, Option, unwrap_or, sym, refl, ap, ◌∙◌, subst, ap₂, arith, MatchOption}
 use mathlib.Core.List.Memᴰ
 use mathlib.Core.List.{Memᴰ}
 use Rattle.std.specs.Option.{option_or}
 use Rattle.std.specs.Bool.{then_some}
 use Rattle.std.proofs.lemmas.Bool.{eqb-true, true≢false}
-use Rattle.rewriting.specs.Terms.{Tree, node, Trees, nil, cons, Term, var, app, Terms, nilᵗ, consᵗ, same, Substitution, apply, applies, occurs, occurs_in}
-use Rattle.rewriting.specs.Cards.{Rule, Ascending, VariablesWithin}
+use Rattle.rewriting.specs.Terms.{Tree, Term, var, app, Terms, nilᵗ, consᵗ, Substitution, apply, applies, occurs, occurs_in}
+use Rattle.rewriting.specs.Cards.{Rule, Ascending}
 use Rattle.rewriting.specs.Matching.{bound, bound_in, bindings, matches, match, fitting, Fits, LowestFitting}
 use Rattle.rewriting.proofs.Equality.{same_eq, same_decides, apply_agrees}
 
@@ -82,7 +82,7 @@ first_lowest q R t a f = record { listed = Memᴰ.head refl; fits = f; lowest = 
     low p (Memᴰ.tail m) k = omega (arith, a.0 p m)
 
 pub fitting_lowest : (R : List Rule) → Ascending R → (t : Tree) → MatchOption (fitting R t) (NoneFits R t) (λ r. LowestFitting R t r)
-fitting_lowest [] a t = λ r m f. Memᴰ.not_nil m
+fitting_lowest [] a t = λ r m f. Memᴰ.not-nil m
 fitting_lowest (q ∷ R) a t = go (fitting_lowest R a.1 t) (matches q.left t) refl
   where
     behind : (o : Option Rule) → (Fits q t → ⊥) → MatchOption o (NoneFits R t) (λ r. LowestFitting R t r) → MatchOption o (NoneFits (q ∷ R) t) (λ r. LowestFitting (q ∷ R) t r)

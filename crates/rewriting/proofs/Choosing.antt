@@ -3,12 +3,11 @@ use Rattle.std.proofs.Common.{◌≡◌, ℕ, zero, suc, ◌+◌, ◌<◌, ◌�
 use mathlib.Core.List.Memᴰ
 use mathlib.Core.List.{Memᴰ}
 use Rattle.std.proofs.lemmas.Bool.{cases_lt, true≢false}
-use Rattle.rewriting.specs.Terms.{Tree, size, children}
+use Rattle.rewriting.specs.Terms.{Tree, size}
 use Rattle.rewriting.specs.Cards.{Card, WellFormed}
-use Rattle.rewriting.specs.Subterms.{Proper}
-use Rattle.rewriting.specs.Sites.{Site, sites, redexes, IsSite, Outer, SitesListed}
+use Rattle.rewriting.specs.Sites.{Site, sites, redexes, IsSite, Outer}
 use Rattle.rewriting.specs.Runs.{Chooses, first_from, outermost, chosen}
-use Rattle.rewriting.proofs.Members.{place_mem, mem_place}
+use Rattle.rewriting.proofs.Members.{mem_place}
 use Rattle.rewriting.proofs.Walking.{proper_size}
 use Rattle.rewriting.proofs.Redexes.{redexes_are_sites}
 use Rattle.rewriting.proofs.Listing.{sites_listed, no_site_no_redex}
@@ -78,7 +77,7 @@ largest x [] =
     record {
       tree = x;
       listed = Memᴰ.head refl;
-      largest = λ y m. ⊎_elim (λ e. omega (arith, ap size e)) (λ k. absurd (Memᴰ.not_nil k)) (Memᴰ.cases_cons m);
+      largest = λ y m. ⊎_elim (λ e. omega (arith, ap size e)) (λ k. absurd (Memᴰ.not-nil k)) (Memᴰ.cases_cons m);
     }
 largest x (z ∷ zs) =
     let r = largest z zs in

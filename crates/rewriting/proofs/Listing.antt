@@ -1,7 +1,6 @@
 -- The list of site records: each describes the redex at its place, and numbers ascend. Assumes nothing.
 use Rattle.std.proofs.Common.{◌≡◌, ℕ, zero, suc, ◌+◌, ◌<◌, ◌≤◌, Bool, true, false, not, ◌↔◌, List, [], ◌∷◌, length, get_or, Decides, sym, refl, ap, ◌∙◌, subst, arith}
 use mathlib.Core.List.Memᴰ
-use mathlib.Core.List.{Memᴰ}
 use Rattle.std.proofs.lemmas.Bool.Decides.{Decides-not, Decides-like}
 use Rattle.rewriting.specs.Terms.{Tree, node, nil}
 use Rattle.rewriting.specs.Cards.{Card, OnCard, WellFormed}
@@ -10,7 +9,7 @@ use Rattle.rewriting.specs.Subterms.{Proper, subterms}
 use Rattle.rewriting.specs.Sites.{Site, redex, rule_number, keep, any, proper, redexes, site, sites_from, sites, IsSite, Outer, Inner, Describes, SitesListed}
 use Rattle.rewriting.proofs.Members.{place_mem}
 use Rattle.rewriting.proofs.Walking.{subterms_list}
-use Rattle.rewriting.proofs.Redexes.{keep_mem, Passes, any_decides, proper_decides, redex_rule, redexes_are_sites, no_redex_normal}
+use Rattle.rewriting.proofs.Redexes.{keep_mem, any_decides, proper_decides, redex_rule, redexes_are_sites, no_redex_normal}
 
 module _ (C : Card) (all : List Tree) where
   pub sites_length : (n : ℕ) (xs : List Tree) → length (sites_from C all n xs) ≡ length (keep (redex C) xs)

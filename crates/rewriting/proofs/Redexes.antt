@@ -1,12 +1,12 @@
 -- Redexes as the test finds them are the sites of the relation; a tree without one is a normal form. Assumes nothing.
-use Rattle.std.proofs.Common.{◌≡◌, ℕ, Bool, true, false, ◌||◌, ◌⊎◌, ◌↔◌, List, [], ◌∷◌, is_some, Some, None, Decides, Option, sym, refl, ap, ◌∙◌, subst, inl, inr, ⊎_elim, arith, MatchOption}
+use Rattle.std.proofs.Common.{◌≡◌, Bool, true, false, ◌↔◌, List, [], ◌∷◌, is_some, Some, None, Decides, Option, sym, refl, ap, ◌∙◌, subst, ⊎_elim, MatchOption}
 use mathlib.Core.List.Memᴰ
 use mathlib.Core.List.{Memᴰ}
 use Rattle.std.proofs.lemmas.Bool.{or_cases, or_left, or_right, true≢false}
-use Rattle.rewriting.specs.Terms.{Tree, node, Trees, nil, cons, children}
+use Rattle.rewriting.specs.Terms.{Tree, node, Trees, cons, children}
 use Rattle.rewriting.specs.Cards.{Rule, Card, OnCard, WellFormed}
 use Rattle.rewriting.specs.Matching.{fitting, bindings, contracted, Fits, LowestFitting}
-use Rattle.rewriting.specs.Steps.{Contracts, Step, here, inside, Steps, first, later, CardStep, NormalForm}
+use Rattle.rewriting.specs.Steps.{Contracts, Step, here, inside, Steps, first, later, NormalForm}
 use Rattle.rewriting.specs.Subterms.{Subterm, self, below, SubtermIn, in_first, in_rest, Proper, walks, subterms}
 use Rattle.rewriting.specs.Sites.{redex, contractum, contract_by, keep, any, proper, redexes, IsSite}
 use Rattle.rewriting.proofs.Bindings.{matches_sound, fits_matches, NoneFits, fitting_lowest}
@@ -16,7 +16,7 @@ use Rattle.rewriting.proofs.Stepping.{step_on_card}
 
 -- what a filter keeps
 pub keep_mem : (p : Tree → Bool) (x : Tree) (xs : List Tree) → Memᴰ x (keep p xs) → (p x ≡ true) × Memᴰ x xs
-keep_mem p x [] m = absurd (Memᴰ.not_nil m)
+keep_mem p x [] m = absurd (Memᴰ.not-nil m)
 keep_mem p x (y ∷ ys) m = go (λ k. keep_mem p x ys k) (p y) refl m
   where
     deeper : (p x ≡ true) × Memᴰ x ys → (p x ≡ true) × Memᴰ x (y ∷ ys)
@@ -155,7 +155,7 @@ module _ (C : Card) (w : WellFormed C) where
       let k = step_at p.step in
       let f : Fits k.contracts.rule k.redex = record { substitution = k.contracts.substitution; makes = k.contracts.left_is } in
       let m = keep_has (redex C) k.redex ((subterms_list k.redex t).1 k.subterm) (fits_redex k.redex k.contracts.rule k.contracts.listed f) in
-      Memᴰ.not_nil (subst (λ xs. Memᴰ k.redex xs) e m)
+      Memᴰ.not-nil (subst (λ xs. Memᴰ k.redex xs) e m)
 
   normal_is_empty : (t : Tree) → OnCard C t → NormalForm C t → redexes C t ≡ []
   normal_is_empty t on n = go (redexes C t) refl

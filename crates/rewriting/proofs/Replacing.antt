@@ -1,12 +1,11 @@
 -- Replacing every occurrence of a redex is a run of tree steps. Assumes nothing.
 use Rattle.std.proofs.Common.{◌≡◌, Bool, true, false, ◌↔◌, List, sym, refl, ap, ◌∙◌, subst, ap₂}
-use Rattle.std.proofs.lemmas.Bool.{true≢false}
 use Rattle.rewriting.specs.Terms.{Tree, node, Trees, nil, cons, same}
 use Rattle.rewriting.specs.Cards.{Rule, Card, OnCard, WellFormed}
 use Rattle.rewriting.specs.Relations.{Star, stop}
 use Rattle.rewriting.specs.Steps.{Contracts, Step, here, inside, Steps, first, later, Reaches}
 use Rattle.rewriting.specs.Sites.{contractum, replace, replaces, shared_step, IsSite, Replaced, occurrence, elsewhere, ReplacedIn, nowhere, both}
-use Rattle.rewriting.proofs.Equality.{same_eq, same_decides, same_differs}
+use Rattle.rewriting.proofs.Equality.{same_eq, same_differs}
 use Rattle.rewriting.proofs.Closures.{star_one, star_trans, star_map}
 use Rattle.rewriting.proofs.Stepping.{reaches_by_steps}
 use Rattle.rewriting.proofs.Redexes.{redex_contracts, site_redex}

@@ -1,11 +1,11 @@
 -- Runs: their turns, how they stop, what they reach, and how they add up. Assumes nothing.
-use Rattle.std.proofs.Common.{◌≡◌, ℕ, zero, suc, ◌+◌, ◌<◌, ◌≤◌, Bool, true, false, ◌↔◌, List, [], ◌∷◌, length, get_or, sym, refl, ap, ◌∙◌, subst, suc-add, zero-add, arith}
+use Rattle.std.proofs.Common.{◌≡◌, ℕ, zero, suc, ◌+◌, ◌<◌, Bool, true, false, ◌↔◌, List, [], ◌∷◌, length, sym, refl, ap, ◌∙◌, subst, suc-add, zero-add, arith}
 use Rattle.std.proofs.lemmas.Bool.{true≢false}
 use Rattle.rewriting.specs.Terms.{Tree}
 use Rattle.rewriting.specs.Cards.{Card, OnCard, WellFormed}
 use Rattle.rewriting.specs.Steps.{Reaches}
 use Rattle.rewriting.specs.Subterms.{subterms}
-use Rattle.rewriting.specs.Sites.{Site, sites, redexes, IsSite}
+use Rattle.rewriting.specs.Sites.{sites, redexes, IsSite}
 use Rattle.rewriting.specs.Runs.{Choice, Chooses, Room, Stop, normal, spent, full, Outcome, ended, one_more, is_empty, at_rest, chosen, next, run, Runs, rests, uses_up, lacks_room, goes_on, AddsUp, StopsRightly}
 use Rattle.rewriting.proofs.Members.{place_mem}
 use Rattle.rewriting.proofs.Stepping.{reaches_refl, reaches_trans, reached_on_card}

@@ -1,12 +1,12 @@
 -- The small cards: well-formed, run, and confluent on their own trees. Assumes nothing.
-use Rattle.std.proofs.Common.{◌≡◌, ℕ, zero, suc, ◌<◌, Bool, true, false, ◌||◌, eqb, List, [], ◌∷◌, Some, None, Option, sym, refl, ap, ◌∙◌, subst, ⊎_elim, arith}
+use Rattle.std.proofs.Common.{◌≡◌, ℕ, zero, suc, Bool, true, false, ◌||◌, eqb, [], ◌∷◌, sym, refl, ap, ◌∙◌, subst, ⊎_elim, arith}
 use mathlib.Core.List.Memᴰ
 use mathlib.Core.List.{Memᴰ}
 use Rattle.std.proofs.lemmas.Bool.{or_left}
 use Rattle.rewriting.specs.Terms.{Tree, node, Trees, nil, cons, children, Substitution, apply}
 use Rattle.rewriting.specs.Cards.{Rule, OnCard, WellFormed, WellFormedRule}
 use Rattle.rewriting.specs.Relations.{Joins}
-use Rattle.rewriting.specs.Steps.{Contracts, Step, here, inside, Steps, first, later, CardStep, Reaches}
+use Rattle.rewriting.specs.Steps.{Step, here, inside, Steps, first, later, Reaches}
 use Rattle.rewriting.specs.Samples.{tea, collapsing, ScentedDoubleRuns, ConfluenceIsOverTheTreesOfTheCard}
 use Rattle.rewriting.proofs.Closures.{star_one, final_stays}
 use Rattle.rewriting.proofs.Stepping.{reaches_refl, reached_on_card}
@@ -38,7 +38,7 @@ tea_well_formed =
             left_no_variable = tt;
             right_within_left = λ v h. swapped (eqb 0 v) (eqb 1 v) h;
           });
-      ascending = ((λ q m. omega (arith, ap (λ (r : Rule). r.number) (Memᴰ.eq_of_singleton m))), ((λ q m. absurd (Memᴰ.not_nil m)), tt));
+      ascending = ((λ q m. omega (arith, ap (λ (r : Rule). r.number) (Memᴰ.eq_of_singleton m))), ((λ q m. absurd (Memᴰ.not-nil m)), tt));
     }
 
 pub scented_double_runs : ScentedDoubleRuns

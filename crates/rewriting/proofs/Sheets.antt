@@ -33,7 +33,7 @@ trees_of_append xs (r ∷ rs) qs = trees_of_append (xs ++ (tree_of_row xs r ∷ 
 
 -- a member of the front is found at its place
 place_found : (c : Tree) (xs ys : List Tree) → Memᴰ c xs → get_or xs (place_of c (xs ++ ys)) leaf ≡ c
-place_found c [] ys m = absurd (Memᴰ.not_nil m)
+place_found c [] ys m = absurd (Memᴰ.not-nil m)
 place_found c (x ∷ xs) ys m = go (place_found c xs ys) (same c x) refl
   where
     go : (Memᴰ c xs → get_or xs (place_of c (xs ++ ys)) leaf ≡ c) → (b : Bool) → same c x ≡ b

@@ -1,10 +1,9 @@
 -- Steps stay on the card, and the laws of reaching and convertible trees. Assumes nothing.
-use Rattle.std.proofs.Common.{◌≡◌, ℕ, suc, true, ◌||◌, ◌↔◌, List, Some, None, Option, sym, refl, ap, ◌∙◌, subst, ap₂, ⊎_elim}
-use mathlib.Core.List.{Memᴰ}
+use Rattle.std.proofs.Common.{◌≡◌, ℕ, suc, true, ◌↔◌, Some, sym, refl, ap, ◌∙◌, subst, ⊎_elim}
 use Rattle.std.proofs.lemmas.Bool.{eqb-true, eq-eqb, or_left, or_right, or_cases, true≢false}
-use Rattle.rewriting.specs.Terms.{Tree, node, Trees, nil, cons, Term, var, app, Terms, nilᵗ, consᵗ, count, countᵗ, Substitution, apply, applies, occurs, occurs_in}
-use Rattle.rewriting.specs.Cards.{Signature, Rule, Card, OnSignature, AllOnSignature, TermOn, TermsOn, OnCard, WellFormed, WellFormedRule}
-use Rattle.rewriting.specs.Relations.{Star, stop, step, Chain, end, forward, backward, Joined, Joins}
+use Rattle.rewriting.specs.Terms.{Tree, Trees, Term, var, app, Terms, nilᵗ, consᵗ, count, countᵗ, Substitution, apply, applies, occurs, occurs_in}
+use Rattle.rewriting.specs.Cards.{Signature, Card, OnSignature, AllOnSignature, TermOn, TermsOn, OnCard, WellFormed}
+use Rattle.rewriting.specs.Relations.{Star, stop, step, Chain, end, forward, backward, Joins}
 use Rattle.rewriting.specs.Steps.{Contracts, Step, here, inside, Steps, first, later, CardStep, Reaches, Convertible, ReachCommon, Confluent, NormalForm}
 use Rattle.rewriting.proofs.Closures.{star_trans, chain_trans, chain_sym, star_chain, chain_joined, final_equal_exactly}
 

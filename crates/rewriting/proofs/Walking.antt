@@ -1,11 +1,11 @@
 -- What the walk in sheet order lists: each subterm once, children first, the tree itself last. Assumes nothing.
-use Rattle.std.proofs.Common.{◌≡◌, ℕ, zero, suc, ◌+◌, ◌<◌, ◌≤◌, Bool, true, false, ◌⊎◌, ◌↔◌, List, [], ◌∷◌, ◌++◌, length, get_or, sym, refl, ap, ◌∙◌, subst, inl, inr, ⊎_elim, arith}
+use Rattle.std.proofs.Common.{◌≡◌, ℕ, zero, suc, ◌<◌, ◌≤◌, ◌⊎◌, ◌↔◌, List, [], ◌∷◌, ◌++◌, length, get_or, sym, refl, ap, ◌∙◌, subst, inl, inr, ⊎_elim, arith}
 use mathlib.Core.List.Memᴰ
 use mathlib.Core.List.{Memᴰ}
-use lib.ListN.{get_or_append}
+use lib.ListN.{get_or-append}
 use Rattle.rewriting.specs.Terms.{Tree, node, Trees, nil, cons, children, to_list, size, sizes}
-use Rattle.rewriting.specs.Subterms.{Subterm, self, below, SubtermIn, in_first, in_rest, Proper, member, add, walk, walks, subterms, postorder, postorders, firsts_of, Distinct, ChildrenFirst}
-use Rattle.rewriting.proofs.Members.{member_mem, add_cases, add_mem, add_keeps, add_has, mem_place, place_mem}
+use Rattle.rewriting.specs.Subterms.{Subterm, self, below, SubtermIn, in_first, in_rest, Proper, add, walk, walks, subterms, postorder, postorders, firsts_of, Distinct, ChildrenFirst}
+use Rattle.rewriting.proofs.Members.{add_cases, add_mem, add_keeps, add_has, mem_place, place_mem}
 
 -- the walk has what was seen before and the subterms, and nothing else
 mutual
@@ -37,13 +37,13 @@ mutual
   walks_has s (cons t ts) seen (in_rest u) = walks_has s ts (walk t seen) u
 
 pub subterms_list : (s t : Tree) → Memᴰ s (subterms t) ↔ Subterm s t
-subterms_list s t = ((λ m. ⊎_elim (λ h. absurd (Memᴰ.not_nil h)) (λ u. u) (walk_mem s t [] m)), walk_has s t [])
+subterms_list s t = ((λ m. ⊎_elim (λ h. absurd (Memᴰ.not-nil h)) (λ u. u) (walk_mem s t [] m)), walk_has s t [])
 
 pub proper_list : (s : Tree) (ts : Trees) → Memᴰ s (walks ts []) ↔ SubtermIn s ts
-proper_list s ts = ((λ m. ⊎_elim (λ h. absurd (Memᴰ.not_nil h)) (λ u. u) (walks_mem s ts [] m)), walks_has s ts [])
+proper_list s ts = ((λ m. ⊎_elim (λ h. absurd (Memᴰ.not-nil h)) (λ u. u) (walks_mem s ts [] m)), walks_has s ts [])
 
 pub child_in : (c : Tree) (ts : Trees) → Memᴰ c (to_list ts) → SubtermIn c ts
-child_in c nil m = absurd (Memᴰ.not_nil m)
+child_in c nil m = absurd (Memᴰ.not-nil m)
 child_in c (cons t ts) m = ⊎_elim (λ e. in_first (self e)) (λ k. in_rest (child_in c ts k)) (Memᴰ.cases_cons m)
 
 -- a list grown from its front, in which each tree is new and stands behind its children
@@ -90,7 +90,7 @@ last_or_early (suc n) (suc i) h = go (last_or_early n i (omega arith))
 -- what stands in xs ++ [t]: an earlier place has what xs has there, the last place has t
 module _ (d : Tree) (xs : List Tree) (t : Tree) where
   snoc_early : (i : ℕ) → i < length xs → get_or (xs ++ (t ∷ [])) i d ≡ get_or xs i d
-  snoc_early i h = get_or_append xs (t ∷ []) d i h
+  snoc_early i h = get_or-append xs (t ∷ []) d i h
 
   snoc_last : (i : ℕ) → i ≡ length xs → get_or (xs ++ (t ∷ [])) i d ≡ t
   snoc_last i e = ap (λ n. get_or (xs ++ (t ∷ [])) n d) e ∙ at_end xs t d

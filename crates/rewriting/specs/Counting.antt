@@ -1,5 +1,5 @@
 -- Counting distinct trees. Assumes nothing.
-use Rattle.std.specs.Prelude.{◌≡◌, ℕ, ◌≤◌, ◌↔◌, List, [], ◌∷◌, length}
+use Rattle.std.specs.Prelude.{◌≡◌, ℕ, ◌≤◌, ◌↔◌, List, [], length}
 use mathlib.Core.List.{Memᴰ}
 use Rattle.rewriting.specs.Terms.{Tree, Trees}
 use Rattle.rewriting.specs.Subterms.{Distinct, SubtermIn, walks}

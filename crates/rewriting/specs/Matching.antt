@@ -3,7 +3,7 @@ use Rattle.std.specs.Prelude.{◌≡◌, ℕ, ◌≤◌, Bool, true, false, List
 use mathlib.Core.List.{Memᴰ}
 use Rattle.std.specs.Option.{unwrap_or, option_or}
 use Rattle.rewriting.specs.Terms.{Tree, node, Trees, nil, cons, Term, var, app, Terms, nilᵗ, consᵗ, Substitution, apply, same, occurs}
-use Rattle.rewriting.specs.Cards.{Rule, Ascending, WellFormedRule, VariablesWithin}
+use Rattle.rewriting.specs.Cards.{Rule, Ascending, VariablesWithin}
 
 -- what stands in the tree where the term has the variable v for the first time
 abbrev mutual

@@ -1,5 +1,5 @@
 -- A term as the preorder list of its places, and back. Assumes nothing.
-use Rattle.std.specs.Prelude.{◌≡◌, ℕ, zero, suc, ◌+◌, Bool, true, false, List, [], ◌∷◌, ◌++◌, drop, Some, None, Decides, Option}
+use Rattle.std.specs.Prelude.{◌≡◌, ℕ, zero, suc, ◌+◌, Bool, true, false, List, [], ◌∷◌, ◌++◌, drop, Some, None, Decides}
 use Rattle.std.specs.Option.{unwrap_or}
 use Rattle.rewriting.specs.Terms.{Term, var, app, Terms, nilᵗ, consᵗ, countᵗ}
 use Rattle.rewriting.specs.Cards.{Signature, TermOn, TermsOn}

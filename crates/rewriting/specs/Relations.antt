@@ -1,5 +1,4 @@
 -- Closures of any relation, and the properties of abstract rewriting that rest on them. Assumes nothing.
-use Rattle.std.specs.Prelude.{◌≡◌}
 
 -- none or more steps
 pub data Star {A : Type 0} (S : A → A → Type 0) : A → A → Type 0 where

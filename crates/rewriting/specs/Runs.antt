@@ -3,7 +3,7 @@ use Rattle.std.specs.Prelude.{◌≡◌, ℕ, zero, suc, ◌+◌, ◌<◌, ◌�
 use Rattle.std.specs.Option.{unwrap_or}
 use Rattle.rewriting.specs.Terms.{Tree}
 use Rattle.rewriting.specs.Cards.{Card, OnCard, WellFormed}
-use Rattle.rewriting.specs.Steps.{Reaches, NormalForm}
+use Rattle.rewriting.specs.Steps.{Reaches}
 use Rattle.rewriting.specs.Sites.{Site, sites, redexes, shared_step, IsSite, Outer}
 
 -- a choice among sites, by place from 0; on a list that is not empty the place is one of the list

@@ -1,11 +1,11 @@
 -- Small cards on which the definitions can be seen at work. Assumes nothing.
-use Rattle.std.specs.Prelude.{◌≡◌, ℕ, true, List, [], ◌∷◌}
+use Rattle.std.specs.Prelude.{◌≡◌, ℕ, true, [], ◌∷◌}
 use Rattle.rewriting.specs.Terms.{Tree, node, nil, cons, Term, var, app, nilᵗ, consᵗ}
-use Rattle.rewriting.specs.Cards.{Rule, Card, signature, WellFormed}
+use Rattle.rewriting.specs.Cards.{Card, signature, WellFormed}
 use Rattle.rewriting.specs.Relations.{Joins}
 use Rattle.rewriting.specs.Steps.{Step, Confluent}
-use Rattle.rewriting.specs.Subterms.{Row, sheet}
-use Rattle.rewriting.specs.Runs.{Choice, Outcome, normal, spent, outermost, run}
+use Rattle.rewriting.specs.Subterms.{sheet}
+use Rattle.rewriting.specs.Runs.{normal, spent, outermost, run}
 
 abbrev constant : ℕ → Tree
 constant f = node f nil

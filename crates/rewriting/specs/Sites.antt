@@ -1,9 +1,9 @@
 -- Sites, the redexes of a tree as a strategy is shown them, and the shared step. Assumes nothing.
-use Rattle.std.specs.Prelude.{◌≡◌, ℕ, zero, suc, ◌<◌, ◌≤◌, Bool, true, false, not, ◌||◌, ◌↔◌, List, [], ◌∷◌, length, get_or, is_some, Some, None, Decides, Option, MatchOption, ◌≢◌, slice_index_or}
+use Rattle.std.specs.Prelude.{◌≡◌, ℕ, suc, ◌<◌, Bool, true, false, not, ◌||◌, ◌↔◌, List, [], ◌∷◌, length, get_or, is_some, Some, None, Decides, Option, ◌≢◌, slice_index_or}
 use mathlib.Core.List.{Memᴰ}
 use Rattle.rewriting.specs.Terms.{Tree, node, Trees, nil, cons, children, same}
 use Rattle.rewriting.specs.Cards.{Rule, Card, OnCard, WellFormed}
-use Rattle.rewriting.specs.Matching.{fitting, contracted, Fits, LowestFitting}
+use Rattle.rewriting.specs.Matching.{fitting, contracted, LowestFitting}
 use Rattle.rewriting.specs.Steps.{Reaches, NormalForm}
 use Rattle.rewriting.specs.Subterms.{Subterm, Proper, member, walks, subterms}
 

@@ -1,7 +1,7 @@
 -- Tree steps, and reaching, convertible, confluent and normal form over the trees of a card. Assumes nothing.
 use Rattle.std.specs.Prelude.{◌≡◌, ℕ, ◌↔◌, List}
 use mathlib.Core.List.{Memᴰ}
-use Rattle.rewriting.specs.Terms.{Tree, node, Trees, nil, cons, Substitution, apply}
+use Rattle.rewriting.specs.Terms.{Tree, node, Trees, cons, Substitution, apply}
 use Rattle.rewriting.specs.Cards.{Rule, Card, OnCard, WellFormed}
 use Rattle.rewriting.specs.Relations.{Star, Chain}
 

@@ -7,6 +7,8 @@
 // Each function below is a law: it does nothing, and its contract is the statement, named after what it says. The check
 // fails unless the statement is proved. Other crates use a law through the lemma that its answer in proofs/ cites.
 
+#![tactic(auto)]
+
 pub mod counting;
 pub mod matching;
 pub mod places;

@@ -6,6 +6,8 @@
 // lines that are there already. Which lines a tree has, and in which order, is left to the store.
 //
 // Law: two trees of a card have the same sheet exactly if they are equal.
+
+#![tactic(auto)]
 pub mod laws;
 pub mod line;
 pub mod text;

@@ -1,6 +1,6 @@
 -- What the tins hold after one of them got another tree. Assumes nothing.
 use Rattle.std.proofs.Common.{◌≡◌, ℕ, zero, suc, ◌<◌, ◌≤◌, Bool, true, ltb, ◌⊎◌, List, [], ◌∷◌, ◌++◌, map, length, get_or, set, Some, None, Option, sym, refl, ap, ◌∙◌, subst, ap₂, inl, inr, ⊎_elim, arith, length-set}
-use lib.ListN.{get_or_append}
+use lib.ListN.{get_or-append}
 use Rattle.std.proofs.lemmas.List.{get_or-set_same, get_or-set_other, map-set}
 use Rattle.std.proofs.lemmas.Bool.{cases_eq, ltb-true}
 use Rattle.rewriting.specs.Terms.{Tree}
@@ -12,7 +12,7 @@ use Rattle.store.specs.OnCard.{tin_on}
 -- records in use keep their trees where records are added
 held_front : (ts added : List Tree) (o : Option ℕ) → in_use (length ts) o ≡ true → held (ts ++ added) o ≡ held ts o
 held_front ts added None h = refl
-held_front ts added (Some k) h = ap Some (get_or_append ts added blank_tree k (ltb-true k (length ts) h))
+held_front ts added (Some k) h = ap Some (get_or-append ts added blank_tree k (ltb-true k (length ts) h))
 
 pub held_trees_front : (ts added : List Tree) (roots : List (Option ℕ)) → RootsInUse (length ts) roots → held_trees (ts ++ added) roots ≡ held_trees ts roots
 held_trees_front ts added [] used = refl

@@ -7,6 +7,8 @@
 //
 // `tins::Tins` are the tins with their tables, below the card; `memory::Memory` is what a store is opened on and gives back.
 // Nothing here allocates. Which records hold which subterms is left open.
+
+#![tactic(auto)]
 pub mod laws;
 pub mod memory;
 pub mod naming;

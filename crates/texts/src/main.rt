@@ -2,6 +2,8 @@
 //
 // Byte 0 ends a text. Its first byte says what it is: "c" a card text, anything else a recipe. A recipe is read on the card
 // of the last card text, which is the empty card if that text was refused.
+
+#![tactic(auto)]
 use card::record::{Card, Place, RuleRecord, SymbolRecord};
 use cardreader::reader::read_card;
 use reading::recipe::read_recipe;

@@ -1,5 +1,7 @@
 // Rewrites a recipe outermost by the rules of a card, and prints the recipe, each step, why it stopped, and the finished
 // sheet; or why the card or the recipe is refused.
+
+#![tactic(auto)]
 mod input;
 
 use card::record::{Place, RuleRecord, SymbolRecord};

@@ -13,7 +13,7 @@ returns-then-not-is-rule c =
 pub loop-rule-preserved : goal.loop-rule-preserved
 loop-rule-preserved c =
     All-more (WellFormedRule (arities c.args.symbols.now)) c.args.rules.now c.loop-rule.rule-index _ c.loop-rule-test.true c.loop-rule.invariant
-    (c.if-not-is-rule.ensures.0 refl)
+    (c.if-not-is_rule.ensures.0 refl)
 
 pub returns : goal.returns
 returns c = all_passed (WellFormedRule (arities c.args.symbols.now)) c.args.rules.now c.loop-rule.rule-index c.loop-rule-test.false c.loop-rule.invariant

@@ -13,7 +13,7 @@ returns-then-not-is-symbol c =
 pub loop-symbol-preserved : goal.loop-symbol-preserved
 loop-symbol-preserved c =
     All-more WellFormedSymbol c.args.symbols.now c.loop-symbol.symbol-index _ c.loop-symbol-test.true c.loop-symbol.invariant
-    (c.if-not-is-symbol.ensures.0 refl)
+    (c.if-not-is_symbol.ensures.0 refl)
 
 pub returns : goal.returns
 returns c = all_passed WellFormedSymbol c.args.symbols.now c.loop-symbol.symbol-index c.loop-symbol-test.false c.loop-symbol.invariant

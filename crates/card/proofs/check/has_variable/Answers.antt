@@ -9,14 +9,14 @@ use Rattle.card.proofs.check.has_variable.Goals as goal
 pub returns-then-eq : goal.returns-then-eq
 returns-then-eq c =
     let more : c.loop-place.place-index < length c.args.side.now = omega arith in
-    let is = (equals_some c.variable-of.result c.args.variable c.eq.result c.eq.ensures).0 c.if-eq.true in
-    sym (mentions_here c.args.side.now c.loop-place.place-index _ more c.args.variable (sym is ∙ c.variable-of.ensures))
+    let is = (equals_some c.variable_of.result c.args.variable c.eq.result c.eq.ensures).0 c.if-eq.true in
+    sym (mentions_here c.args.side.now c.loop-place.place-index _ more c.args.variable (sym is ∙ c.variable_of.ensures))
 
 pub loop-place-preserved : goal.loop-place-preserved
 loop-place-preserved c =
     let more : c.loop-place.place-index < length c.args.side.now = omega arith in
-    let other = not_from_Decides c.eq.result (equals_some c.variable-of.result c.args.variable c.eq.result c.eq.ensures) c.if-eq.false in
-    sym (mentions_further c.args.side.now c.loop-place.place-index _ more c.args.variable (λ e. other (c.variable-of.ensures ∙ e)))
+    let other = not_from_Decides c.eq.result (equals_some c.variable_of.result c.args.variable c.eq.result c.eq.ensures) c.if-eq.false in
+    sym (mentions_further c.args.side.now c.loop-place.place-index _ more c.args.variable (λ e. other (c.variable_of.ensures ∙ e)))
     ∙ c.loop-place.invariant
 
 pub returns : goal.returns

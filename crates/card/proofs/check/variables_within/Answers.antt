@@ -21,7 +21,7 @@ loop-place-preserved c =
     λ rest.
     c.loop-place.invariant
     (within_some c.args.inner.now c.args.outer.now c.loop-place.place-index _ more c.in-Some.v
-    c.in-Some.ensures c.if-not-has-variable.ensures rest)
+    c.in-Some.ensures c.if-not-has_variable.ensures rest)
 
 pub returns : goal.returns
 returns c = (

@@ -10,7 +10,7 @@ returns-then-same-name c =
 
 pub loop-i-preserved : goal.loop-i-preserved
 loop-i-preserved c =
-    sym (found_further _ _ c.loop-i.i _ c.loop-i-test.true (sym c.if-same-name.ensures)) ∙ c.loop-i.invariant
+    sym (found_further _ _ c.loop-i.i _ c.loop-i-test.true (sym c.if-same_name.ensures)) ∙ c.loop-i.invariant
 
 pub returns : goal.returns
 returns c =
