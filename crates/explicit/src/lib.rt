@@ -8,6 +8,7 @@
 // else can fail. Trees are copied whole, so this is for small inputs.
 
 #![tactic(auto)]
+
 pub mod card;
 pub mod term;
 pub mod tree;

@@ -5,10 +5,10 @@ use Rattle.card.specs.Records.{WellFormedSymbol}
 use Rattle.card.proofs.Tables.{all_passed, not_all}
 use Rattle.card.proofs.check.all_symbols.Goals as goal
 
-pub returns-then-not-is-symbol : goal.returns-then-not-is-symbol
-returns-then-not-is-symbol c =
+pub returns-then-not-is_symbol : goal.returns-then-not-is_symbol
+returns-then-not-is_symbol c =
     not_all WellFormedSymbol c.args.symbols.now c.loop-symbol.symbol-index _ c.loop-symbol-test.true
-    (not_from_Decides _ c.if-not-is-symbol.ensures refl)
+    (not_from_Decides _ c.if-not-is_symbol.ensures refl)
 
 pub loop-symbol-preserved : goal.loop-symbol-preserved
 loop-symbol-preserved c =

@@ -14,8 +14,8 @@ returns-in-Symbol c =
       few = search rules;
     }
 
-pub returns-in-default·2 : goal.returns-in-default·2
-returns-in-default·2 c =
+pub returns-in_default-2 : goal.returns-in_default-2
+returns-in_default-2 c =
     let ss = c.args.symbols.now in
     record {
       after = sym (ap (due_after (arities ss) c.args.due) c.in-Symbol.is

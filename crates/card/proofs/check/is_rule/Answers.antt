@@ -3,13 +3,13 @@ use Rattle.card.specs.Records.{arities}
 use Rattle.card.proofs.Rules.{lone_variable_told, rule_told}
 use Rattle.card.proofs.check.is_rule.Goals as goal
 
-pub returns-then-is-none : goal.returns-then-is-none
-returns-then-is-none c =
-    rule_told (arities c.args.symbols.now) c.args.rule.now (c.if-not-is-side.ensures.0 refl)
-    (c.if-not-is-side-2.ensures.0 refl) c.variables-within.result
-    (ap is_some (sym c.variable-of.ensures) ∙ c.if-is-none.ensures) c.variables-within.ensures
+pub returns-then-is_none : goal.returns-then-is_none
+returns-then-is_none c =
+    rule_told (arities c.args.symbols.now) c.args.rule.now (c.if-not-is_side.ensures.0 refl)
+    (c.if-not-is_side-2.ensures.0 refl) c.variables_within.result
+    (ap is_some (sym c.variable_of.ensures) ∙ c.if-is_none.ensures) c.variables_within.ensures
 
-pub returns-else-is-none : goal.returns-else-is-none
-returns-else-is-none c =
-    lone_variable_told (arities c.args.symbols.now) c.args.rule.now c.is-none.result
-    (ap is_some (sym c.variable-of.ensures) ∙ c.if-is-none.ensures) c.if-is-none.false
+pub returns-else-is_none : goal.returns-else-is_none
+returns-else-is_none c =
+    lone_variable_told (arities c.args.symbols.now) c.args.rule.now c.is_none.result
+    (ap is_some (sym c.variable_of.ensures) ∙ c.if-is_none.ensures) c.if-is_none.false

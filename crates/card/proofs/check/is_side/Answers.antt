@@ -5,12 +5,12 @@ use Rattle.card.specs.Records.{arities}
 use Rattle.card.proofs.Sides.{side_told, walk, walked_on}
 use Rattle.card.proofs.check.is_side.Goals as goal
 
-pub returns-in-default : goal.returns-in-default
-returns-in-default c =
+pub returns-in_default : goal.returns-in_default
+returns-in_default c =
     let Σ = arities c.args.symbols.now in
     let more : c.loop-place.place-index < length c.args.side.now = omega arith in
     Decides-at _ (walk Σ 1 c.args.side.now)
-    (sym (walked_on Σ _ _ c.loop-place.due _ _ more c.in-default.ensures.after) ∙ c.loop-place.invariant.0)
+    (sym (walked_on Σ _ _ c.loop-place.due _ _ more c.in_default.ensures.after) ∙ c.loop-place.invariant.0)
     (side_told Σ _ c.told-side)
 
 pub loop-place-preserved : goal.loop-place-preserved

@@ -3,17 +3,17 @@ use Rattle.card.proofs.Rules.{not_within, within_none, within_none_left, within_
 use Rattle.card.proofs.Sides.{mentions_here}
 use Rattle.card.proofs.check.variables_within.Goals as goal
 
-pub loop-place-preserved-in-default : goal.loop-place-preserved-in-default
-loop-place-preserved-in-default c =
+pub loop-place-preserved-in_default : goal.loop-place-preserved-in_default
+loop-place-preserved-in_default c =
     let more : c.loop-place.place-index < length c.args.inner.now = omega arith in
-    λ rest. c.loop-place.invariant (within_none c.args.inner.now c.args.outer.now c.loop-place.place-index _ more c.in-default.ensures rest)
+    λ rest. c.loop-place.invariant (within_none c.args.inner.now c.args.outer.now c.loop-place.place-index _ more c.in_default.ensures rest)
 
-pub returns-then-not-has-variable : goal.returns-then-not-has-variable
-returns-then-not-has-variable c =
+pub returns-then-not-has_variable : goal.returns-then-not-has_variable
+returns-then-not-has_variable c =
     let more : c.loop-place.place-index < length c.args.inner.now = omega arith in
     not_within c.args.inner.now c.args.outer.now c.in-Some.v
     (mentions_here c.args.inner.now c.loop-place.place-index _ more c.in-Some.v c.in-Some.ensures)
-    c.if-not-has-variable.ensures
+    c.if-not-has_variable.ensures
 
 pub loop-place-preserved : goal.loop-place-preserved
 loop-place-preserved c =

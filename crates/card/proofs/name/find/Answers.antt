@@ -4,9 +4,9 @@ use Rattle.card.specs.Records.{find_from}
 use Rattle.card.proofs.Finding.{found_further, found_here}
 use Rattle.card.proofs.name.find.Goals as goal
 
-pub returns-then-same-name : goal.returns-then-same-name
-returns-then-same-name c =
-    sym (found_here _ _ c.loop-i.i _ c.loop-i-test.true (sym c.if-same-name.ensures)) ∙ c.loop-i.invariant
+pub returns-then-same_name : goal.returns-then-same_name
+returns-then-same_name c =
+    sym (found_here _ _ c.loop-i.i _ c.loop-i-test.true (sym c.if-same_name.ensures)) ∙ c.loop-i.invariant
 
 pub loop-i-preserved : goal.loop-i-preserved
 loop-i-preserved c =

@@ -33,7 +33,7 @@ loop-b-preserved c =
           ∙ (sym (zero_scanned bs i more ended w.if-b-eq0.true) ∙ c.loop-b.invariant)
       | else-b-eq0+else-ended+else-not-is_letter w ↦
           ap (λ e. letters_then_zeros e (drop (i + 1) bs)) w.ended-is
-          ∙ (sym (letter_scanned bs i more ended w.if-b-eq0.false w.if-ended.false (sym w.is_letter.ensures ∙ w.if-not-is-letter.false))
+          ∙ (sym (letter_scanned bs i more ended w.if-b-eq0.false w.if-ended.false (sym w.is_letter.ensures ∙ w.if-not-is_letter.false))
           ∙ c.loop-b.invariant)
     ]
 

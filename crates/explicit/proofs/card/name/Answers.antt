@@ -6,7 +6,7 @@ use Rattle.explicit.proofs.card.name.Goals as goal
 pub returns-in-Some : goal.returns-in-Some
 returns-in-Some c =
     let f = c.in-Some.ensures.lookup in
-    c.as-bytes.ensures.value
+    c.as_bytes.ensures.value
     ∙ sym (ap (λ o. unwrap_or (option_map (λ s. string_bytes s.name) o) []) (slice_get_read c.args.symbols.now (length c.args.symbols.now) c.args.symbol c.in-Some.s.now refl f.3.0 f.1))
 
 pub returns-in-None : goal.returns-in-None

@@ -5,5 +5,5 @@ use Rattle.explicit.proofs.term.+all_ground_ground.Given as goal
 abbrev pub decreases-ground : goal.decreases-ground
 decreases-ground l = term.the_size l.term.now
 
-abbrev pub decreases-all-ground : goal.decreases-all-ground
-decreases-all-ground l = terms.the_size l.terms.now
+abbrev pub decreases-all_ground : goal.decreases-all_ground
+decreases-all_ground l = terms.the_size l.terms.now
