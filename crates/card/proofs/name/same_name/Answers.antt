@@ -4,4 +4,4 @@ use Rattle.card.proofs.Naming.{same_bytes_decides}
 use Rattle.card.proofs.name.same_name.Goals as goal
 
 pub returns : goal.returns
-returns c = same_from_decides _ _ (slice_eq-Decides Decides-eqb _ _ _ c.eq.ensures) (same_bytes_decides _ _)
+returns c = same_from_decides _ _ (slice_eq-Decides Decides-eqb c.args.a.now c.args.b.now _ c.eq.ensures) (same_bytes_decides c.args.a.now c.args.b.now)
