@@ -10,11 +10,11 @@ returns c =
     elim c.match-place.branch [
       | in-Variable w ↦
           grows_variable (signature c.args.symbols.now) c.args.place (vec_items c.args.stack.now) (vec_items c.match-place.stack)
-          (vec_items c.push.new.self) c.match-place.term c.in-ok-push.ensures.items
+          (vec_items c.push.new.self) c.match-place.term c.in_ok-push.ensures.items
           w.in-Variable.v w.in-Variable.is (ap vec_items w.stack-is) w.term-is
       | in-Symbol+in-ok-take-terms w ↦
           grows_symbol (signature c.args.symbols.now) c.args.place (vec_items c.args.stack.now) (vec_items c.match-place.stack)
-          (vec_items c.push.new.self) c.match-place.term c.in-ok-push.ensures.items
+          (vec_items c.push.new.self) c.match-place.term c.in_ok-push.ensures.items
           w.in-Symbol.f w.arity.result w.in-ok-take-terms.field-0 w.in-Symbol.is w.arity.ensures w.term-is
           w.in-ok-take-terms.ensures.0 (ap (λ v. stack_of (vec_items v)) w.stack-is ∙ w.in-ok-take-terms.ensures.1)
     ]
