@@ -1,4 +1,4 @@
-use Rattle.std.proofs.Common.{◌≡◌, ◌<◌, ◌≤◌, [], ◌∷◌, ◌++◌, length, take, sym, ap, ◌∙◌, arith}
+use Rattle.std.proofs.Common.{◌<◌, ◌≤◌, [], ◌∷◌, ◌++◌, length, take, ap, ◌∙◌, arith}
 use Rattle.notation.proofs.Lines.{front_grows, stays_whole, front_stays, is_cut}
 use Rattle.notation.proofs.text.Line.put.Goals as goal
 
