@@ -7,5 +7,6 @@
 // and then says so by `AllocError`; nothing else can fail.
 
 #![tactic(auto)]
+
 pub mod sheet;
 pub mod subterm;

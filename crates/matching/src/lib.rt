@@ -8,4 +8,5 @@
 // says so by `AllocError` if there is no memory; nothing else can fail.
 
 #![tactic(auto)]
+
 pub mod rule;

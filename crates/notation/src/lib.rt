@@ -7,5 +7,6 @@
 // `specs/Text.antt` defines. What allocates may find no memory, and then says so by `AllocError`; nothing else can fail.
 
 #![tactic(auto)]
+
 pub mod place;
 pub mod text;

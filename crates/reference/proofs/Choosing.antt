@@ -1,5 +1,5 @@
 -- A choice among a tree's sites is a place among its redexes. Assumes nothing.
-use Rattle.std.proofs.Common.{◌≡◌, ℕ, suc, ◌+◌, ◌<◌, ◌≤◌, Bool, true, false, List, [], ◌∷◌, length, get_or, IfSome, Some, None, Option, unwrap_or, sym, refl, ap, ◌∙◌, arith, Bor}
+use Rattle.std.proofs.Common.{◌≡◌, ℕ, suc, ◌+◌, ◌<◌, Bool, true, false, List, [], ◌∷◌, length, get_or, IfSome, Some, None, Option, unwrap_or, sym, refl, ap, ◌∙◌, arith, Bor}
 use Rattle.std.proofs.lemmas.List.{get_or-map, length-map}
 use Rattle.rewriting.specs.Terms.{Tree}
 use Rattle.rewriting.specs.Cards.{Card}

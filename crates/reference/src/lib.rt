@@ -7,4 +7,5 @@
 // and then says so by `AllocError`; nothing else can fail.
 
 #![tactic(auto)]
+
 pub mod step;

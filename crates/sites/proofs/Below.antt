@@ -1,6 +1,6 @@
 -- Whether a tree is among the subterms of some trees, without listing them. Assumes nothing.
 use Rattle.std.proofs.Common.{◌≡◌, ℕ, Bool, true, false, ◌||◌, eqb, List, [], ◌∷◌, ◌++◌, Box, sym, refl, ap, ◌∙◌, arith}
-use mathlib.Core.Bool.{or_assoc, or_false, or_comm}
+use mathlib.Core.Bool.{or_assoc, or-false, or_comm}
 use Rattle.std.proofs.lemmas.Bool.{and_parts, eqb-true}
 use Rattle.rewriting.specs.Terms.{Tree, node, Trees, nil, cons, same, sames}
 use Rattle.rewriting.specs.Subterms.{member, add, walk, walks}
@@ -24,7 +24,7 @@ mutual
       ap (λ v. cons v ts) (same_sound t u p.0) ∙ ap (λ vs. cons u vs) (sames_sound ts us p.1)
 
 member_push : (s t : Tree) (xs : List Tree) → member s (xs ++ (t ∷ [])) ≡ (member s xs || same s t)
-member_push s t [] = or_false (same s t)
+member_push s t [] = or-false (same s t)
 member_push s t (x ∷ xs) = ap (λ b. same s x || b) (member_push s t xs) ∙ sym (or_assoc (same s x) (member s xs) (same s t))
 
 member_add : (s t : Tree) (xs : List Tree) → member s (add t xs) ≡ (member s xs || same s t)
@@ -34,7 +34,7 @@ member_add s t xs = go (member t xs) refl
     kept there true e =
         let there' : member s xs ≡ true = ap (λ u. member u xs) (same_sound s t e) ∙ there in
         there' ∙ ap (λ c. c || true) (sym there')
-    kept there false e = sym (or_false (member s xs))
+    kept there false e = sym (or-false (member s xs))
 
     go : (b : Bool) → member t xs ≡ b → member s (elim b [ true ↦ xs | false ↦ xs ++ (t ∷ []) ]) ≡ (member s xs || same s t)
     go true there = kept there (same s t) refl
@@ -55,7 +55,7 @@ mutual
       ∙ or_assoc (member s seen) (occurs_in s ts) (same s (node f ts))
 
   member_walks : (s : Tree) (ts : Trees) (seen : List Tree) → member s (walks ts seen) ≡ (member s seen || occurs_in s ts)
-  member_walks s nil seen = sym (or_false (member s seen))
+  member_walks s nil seen = sym (or-false (member s seen))
   member_walks s (cons t ts) seen =
       member_walks s ts (walk t seen) ∙ ap (λ b. b || occurs_in s ts) (member_walk s t seen)
       ∙ or_assoc (member s seen) (occurs_at s t) (occurs_in s ts)

@@ -8,4 +8,5 @@
 // and then says so by `AllocError`; nothing else can fail.
 
 #![tactic(auto)]
+
 pub mod site;

@@ -1,5 +1,5 @@
 use Rattle.explicit.proofs.tree.Trees.TheLaws as trees
 use Rattle.listing.proofs.sheet.+push_numbers.Given as goal
 
-abbrev pub decreases-push-numbers : goal.decreases-push-numbers
-decreases-push-numbers l = trees.the_size l.trees.now
+abbrev pub decreases-push_numbers : goal.decreases-push_numbers
+decreases-push_numbers l = trees.the_size l.trees.now

@@ -8,8 +8,8 @@ use Rattle.listing.proofs.sheet.rows_of.Goals as goal
 pub loop-x-preserved : goal.loop-x-preserved
 loop-x-preserved c =
     row_made c.args.order.now c.loop-x.x-index c.x-item.result c.loop-x-test.true c.x-item.is
-    (listed c.args.order.now) (vec_items c.loop-x.rows) c.in-ok-row-for.field-0
-    c.in-ok-row-for.ensures c.loop-x.invariant c.in-ok-push.ensures.items
+    (listed c.args.order.now) (vec_items c.loop-x.rows) c.in_ok-row_for.field-0
+    c.in_ok-row_for.ensures c.loop-x.invariant c.in_ok-push.ensures.items
 
 pub returns : goal.returns
 returns c =

@@ -2,7 +2,7 @@ use Rattle.std.proofs.Common.{vec_items}
 use Rattle.listing.proofs.Collections.{adds}
 use Rattle.listing.proofs.subterm.+walk_walks.Goals as goal
 
-pub walk-returns-in-ok-push : goal.walk-returns-in-ok-push
-walk-returns-in-ok-push t c =
+pub walk-returns-in_ok-push : goal.walk-returns-in_ok-push
+walk-returns-in_ok-push t c =
     adds c.args.tree (vec_items c.walks.new.seen) c.deref.result.now
-    c.in-ok-walks.ensures c.deref.ensures.value c.if-not-member.ensures c.in-ok-push.ensures.items
+    c.in_ok-walks.ensures c.deref.ensures.value c.if-not-member.ensures c.in_ok-push.ensures.items

@@ -5,5 +5,5 @@ use Rattle.matching.proofs.rule.+all_instances_instance.Given as goal
 abbrev pub decreases-instance : goal.decreases-instance
 decreases-instance l = term.the_size l.part.now
 
-abbrev pub decreases-all-instances : goal.decreases-all-instances
-decreases-all-instances l = terms.the_size l.parts.now
+abbrev pub decreases-all_instances : goal.decreases-all_instances
+decreases-all_instances l = terms.the_size l.parts.now

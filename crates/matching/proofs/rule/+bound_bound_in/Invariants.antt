@@ -5,5 +5,5 @@ use Rattle.matching.proofs.rule.+bound_bound_in.Given as goal
 abbrev pub decreases-bound : goal.decreases-bound
 decreases-bound l = term.the_size l.left.now
 
-abbrev pub decreases-bound-in : goal.decreases-bound-in
-decreases-bound-in l = terms.the_size l.lefts.now
+abbrev pub decreases-bound_in : goal.decreases-bound_in
+decreases-bound_in l = terms.the_size l.lefts.now

@@ -1,4 +1,4 @@
 use Rattle.notation.proofs.place.+take_terms.Given as goal
 
-abbrev pub decreases-take-terms : goal.decreases-take-terms
-decreases-take-terms l = l.count
+abbrev pub decreases-take_terms : goal.decreases-take_terms
+decreases-take_terms l = l.count

@@ -10,4 +10,4 @@ loop-i-init c =
 pub loop-i-preserved : goal.loop-i-preserved
 loop-i-preserved c =
     forest_more (signature c.args.symbols.now) c.args.places.now c.loop-i.i _ (vec_items c.loop-i.stack) (vec_items c.grow.new.stack)
-    c.loop-i-test.true c.loop-i.auto.i c.in-ok-grow.ensures c.loop-i.invariant
+    c.loop-i-test.true c.loop-i.auto.i c.in_ok-grow.ensures c.loop-i.invariant

@@ -5,5 +5,5 @@ use Rattle.reference.proofs.step.+replace_replace_all.Given as goal
 abbrev pub decreases-replace : goal.decreases-replace
 decreases-replace l = tree.the_size l.tree.now
 
-abbrev pub decreases-replace-all : goal.decreases-replace-all
-decreases-replace-all l = trees.the_size l.trees.now
+abbrev pub decreases-replace_all : goal.decreases-replace_all
+decreases-replace_all l = trees.the_size l.trees.now

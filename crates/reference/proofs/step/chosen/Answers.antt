@@ -1,5 +1,4 @@
 use Rattle.std.proofs.Common.{◌<◌, map, length, ap, ◌∙◌, rules}
-use borrow.Author.Rules.{scaled_Fits}
 use Rattle.explicit.specs.Meaning.{card_of, tree_of}
 use Rattle.sites.specs.Records.{site_of}
 use Rattle.reference.proofs.Choosing.{place_within, reads_chosen}
@@ -9,10 +8,10 @@ pub bounds-redexes-outermost : goal.bounds-redexes-outermost
 bounds-redexes-outermost c =
     place_within (card_of c.args.card.now) (tree_of c.args.tree.now) c.args.redexes.now c.requires.all
     (map site_of c.deref.result.now) c.outermost.result c.requires.some
-    (ap (map site_of) c.deref.ensures.value ∙ c.in-ok-sites.ensures) c.outermost.ensures
+    (ap (map site_of) c.deref.ensures.value ∙ c.in_ok-sites.ensures) c.outermost.ensures
 
-pub offset-bounds-redexes-outermost : goal.offset-bounds-redexes-outermost
-offset-bounds-redexes-outermost c =
+pub offset_bounds-redexes-outermost : goal.offset_bounds-redexes-outermost
+offset_bounds-redexes-outermost c =
     let within : c.outermost.result < length c.args.redexes.now = bounds-redexes-outermost c in
     search rules
 
@@ -22,5 +21,5 @@ returns c =
     (map site_of c.deref.result.now) c.outermost.result c.index-redexes-outermost.result
     (place_within (card_of c.args.card.now) (tree_of c.args.tree.now) c.args.redexes.now c.requires.all
     (map site_of c.deref.result.now) c.outermost.result c.requires.some
-    (ap (map site_of) c.deref.ensures.value ∙ c.in-ok-sites.ensures) c.outermost.ensures)
-    (ap (map site_of) c.deref.ensures.value ∙ c.in-ok-sites.ensures) c.outermost.ensures c.index-redexes-outermost.is
+    (ap (map site_of) c.deref.ensures.value ∙ c.in_ok-sites.ensures) c.outermost.ensures)
+    (ap (map site_of) c.deref.ensures.value ∙ c.in_ok-sites.ensures) c.outermost.ensures c.index-redexes-outermost.is

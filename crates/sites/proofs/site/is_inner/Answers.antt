@@ -5,15 +5,15 @@ use Rattle.explicit.proofs.Loops.{ends}
 use Rattle.sites.proofs.Searches.{any_here, any_later}
 use Rattle.sites.proofs.site.is_inner.Goals as goal
 
-pub returns-then-is-below : goal.returns-then-is-below
-returns-then-is-below c =
+pub returns-then-is_below : goal.returns-then-is_below
+returns-then-is_below c =
     any_here (λ u. theory.proper u (tree_of c.args.tree.now)) c.args.redexes.now c.loop-x.x-index c.x-item.result
-    c.loop-x-test.true c.x-item.is c.if-is-below.ensures c.loop-x.invariant
+    c.loop-x-test.true c.x-item.is c.if-is_below.ensures c.loop-x.invariant
 
 pub loop-x-preserved : goal.loop-x-preserved
 loop-x-preserved c =
     any_later (λ u. theory.proper u (tree_of c.args.tree.now)) c.args.redexes.now c.loop-x.x-index c.x-item.result
-    c.loop-x-test.true c.x-item.is c.if-is-below.ensures c.loop-x.invariant
+    c.loop-x-test.true c.x-item.is c.if-is_below.ensures c.loop-x.invariant
 
 pub returns : goal.returns
 returns c =

@@ -7,9 +7,9 @@ use Rattle.sites.proofs.site.sites.Goals as goal
 
 pub returns : goal.returns
 returns c =
-    IfOk-weaker c.sites-among.result _ _
+    IfOk-weaker c.sites_among.result _ _
     (λ v h. h ∙ sites_are (card_of c.args.card.now) (tree_of c.args.tree.now)
-    (ap listed c.deref-2.ensures.value ∙ c.in-ok-order.ensures)
-    (ap listed c.deref-3.ensures.value ∙ c.in-ok-redexes.ensures
+    (ap listed c.deref-2.ensures.value ∙ c.in_ok-order.ensures)
+    (ap listed c.deref-3.ensures.value ∙ c.in_ok-redexes.ensures
     ∙ ap (λ us. keep (redex (card_of c.args.card.now)) (listed us)) (c.deref.ensures.value ∙ sym c.deref-2.ensures.value)))
-    c.sites-among.ensures
+    c.sites_among.ensures

@@ -5,25 +5,25 @@ use Rattle.sites.specs.Records.{site_of}
 use Rattle.listing.proofs.Collections.{all_made}
 use Rattle.sites.proofs.Collections.{site_made, site_is, no_site}
 use Rattle.sites.proofs.site.sites_among.Goals as goal
-use Rattle.sites.proofs.site.sites_among.Goals.{then-is-redex+in-ok-push, else-is-redex}
+use Rattle.sites.proofs.site.sites_among.Goals.{then-is_redex+in_ok-push, else-is_redex}
 
 pub loop-i-preserved : goal.loop-i-preserved
 loop-i-preserved c =
-    elim c.if-is-redex.branch [
-      | then-is-redex+in-ok-push w ↦
+    elim c.if-is_redex.branch [
+      | then-is_redex+in_ok-push w ↦
           site_made c.args.order.now c.loop-i.i c.index-order-i.result c.loop-i-test.true c.index-order-i.is
           (card_of c.args.card.now) (listed c.args.redexes.now) (vec_items c.loop-i.sites)
-          _ w.if-is-redex.ensures
+          _ w.if-is_redex.ensures
           (site_is c.args.order.now c.loop-i.i c.index-order-i.result c.loop-i-test.true c.index-order-i.is
           (card_of c.args.card.now) (listed c.args.redexes.now) (vec_items c.loop-i.sites)
-          w.fitting-number.result w.is-outer.result w.is-inner.result
-          w.fitting-number.ensures w.is-outer.ensures w.is-inner.ensures)
+          w.fitting_number.result w.is_outer.result w.is_inner.result
+          w.fitting_number.ensures w.is_outer.ensures w.is_inner.ensures)
           c.loop-i.invariant
-          (ap vec_items w.sites-is ∙ w.in-ok-push.ensures.items)
-      | else-is-redex w ↦
+          (ap vec_items w.sites-is ∙ w.in_ok-push.ensures.items)
+      | else-is_redex w ↦
           no_site c.args.order.now c.loop-i.i c.index-order-i.result c.loop-i-test.true c.index-order-i.is
           (card_of c.args.card.now) (listed c.args.redexes.now) (vec_items c.loop-i.sites)
-          w.if-is-redex.ensures c.loop-i.invariant (ap vec_items w.sites-is)
+          w.if-is_redex.ensures c.loop-i.invariant (ap vec_items w.sites-is)
     ]
 
 pub returns : goal.returns

@@ -1,12 +1,12 @@
-use Rattle.std.proofs.Common.{◌≡◌, ◌<◌, ◌≤◌, [], ◌∷◌, ◌++◌, length, take, sym, ap, ◌∙◌, arith}
+use Rattle.std.proofs.Common.{◌<◌, ◌≤◌, [], ◌∷◌, ◌++◌, length, take, ap, ◌∙◌, arith}
 use Rattle.notation.proofs.Lines.{front_grows, stays_whole, front_stays, is_cut}
 use Rattle.notation.proofs.text.Line.put.Goals as goal
 
-pub returns-in-ok-push : goal.returns-in-ok-push
-returns-in-ok-push c w h =
+pub returns-in_ok-push : goal.returns-in_ok-push
+returns-in_ok-push c w h =
     let room : length (take 200 w) < 200 = omega (arith, ap length h.front, c.args.self.now.bytes.ok.0) in
     record {
-      front = c.in-ok-push.ensures.items ∙ ap (λ v. v ++ (c.args.byte ∷ [])) h.front ∙ front_grows w c.args.byte room;
+      front = c.in_ok-push.ensures.items ∙ ap (λ v. v ++ (c.args.byte ∷ [])) h.front ∙ front_grows w c.args.byte room;
       longer = h.longer ∙ stays_whole w c.args.byte room;
     }
 

@@ -7,7 +7,7 @@ use Rattle.notation.proofs.text.Line.put_all.Goals as goal
 pub loop-b-preserved : goal.loop-b-preserved
 loop-b-preserved c w h =
     subst (λ v. Holds c.put.new.self v) (next_byte w c.args.bytes.now c.loop-b.b-index 0 c.loop-b-test.true)
-    (c.in-ok-put.ensures (w ++ take c.loop-b.b-index c.args.bytes.now) (c.loop-b.invariant w h))
+    (c.in_ok-put.ensures (w ++ take c.loop-b.b-index c.args.bytes.now) (c.loop-b.invariant w h))
 
 pub returns : goal.returns
 returns c w h =
