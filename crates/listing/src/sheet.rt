@@ -2,7 +2,7 @@
 ghost use Rattle.std.specs.Prelude.{◌≡◌, suc, ◌++◌, map, IfOk, OnOk};
 ghost use Rattle.explicit.specs.Meaning.{listed, tree_of, trees_of};
 ghost use Rattle.listing.specs.Rows.{numbers_of, row_of};
-ghost use Rattle.rewriting.specs.Subterms.{place_of, row, sheet as sheet-rows};
+ghost use Rattle.rewriting.specs.Subterms.{place_of, row, sheet as sheet_rows};
 
 use crate::subterm::subterms;
 use explicit::tree::{Tree, Trees, same};
@@ -63,7 +63,7 @@ fn rows_of(heap: Global, order: &[&Tree]) -> Result<Vec<Row>, AllocError>
 
 // The rows of the tree's subterms in sheet order.
 pub fn sheet(heap: Global, tree: &Tree) -> Result<Vec<Row>, AllocError>
-    ensures { IfOk result (λ v. map row_of v.items ≡ sheet-rows (tree_of tree.now)) }
+    ensures { IfOk result (λ v. map row_of v.items ≡ sheet_rows (tree_of tree.now)) }
 {
     let order = subterms(heap, tree)?;
     rows_of(heap, &order)

@@ -2,7 +2,7 @@
 ghost use Rattle.std.specs.Prelude.{◌≡◌, IfOk, OnOk};
 ghost use Rattle.explicit.specs.Meaning.{listed, tree_of, trees_of};
 ghost use Rattle.rewriting.specs.Subterms.{member as is_member};
-ghost use Rattle.rewriting.specs.Subterms.{subterms as subterm-list, walk as walk-tree, walks as walk-trees};
+ghost use Rattle.rewriting.specs.Subterms.{subterms as subterm_list, walk as walk_tree, walks as walk_trees};
 
 use explicit::tree::{Tree, Trees, same};
 use std::alloc::{AllocError, Global};
@@ -22,7 +22,7 @@ fn member(tree: &Tree, list: &[&Tree]) -> bool
 // Adds the tree's subterms that are not yet seen, each when it is first finished.
 #[cycle(walk_walks)]
 fn walk<'a>(tree: &'a Tree, seen: &mut Vec<&'a Tree>) -> Result<(), AllocError>
-    ensures { OnOk result (listed seen.new.items ≡ walk-tree (tree_of tree.now) (listed seen.old.items)) }
+    ensures { OnOk result (listed seen.new.items ≡ walk_tree (tree_of tree.now) (listed seen.old.items)) }
 {
     walks(&tree.children, seen)?;
     if !member(tree, seen) {
@@ -33,7 +33,7 @@ fn walk<'a>(tree: &'a Tree, seen: &mut Vec<&'a Tree>) -> Result<(), AllocError>
 
 #[cycle(walk_walks)]
 fn walks<'a>(trees: &'a Trees, seen: &mut Vec<&'a Tree>) -> Result<(), AllocError>
-    ensures { OnOk result (listed seen.new.items ≡ walk-trees (trees_of trees.now) (listed seen.old.items)) }
+    ensures { OnOk result (listed seen.new.items ≡ walk_trees (trees_of trees.now) (listed seen.old.items)) }
 {
     match trees {
         Trees::Nil => Ok(()),
@@ -46,7 +46,7 @@ fn walks<'a>(trees: &'a Trees, seen: &mut Vec<&'a Tree>) -> Result<(), AllocErro
 
 // The distinct subterms of the tree, children first.
 pub fn subterms<'a>(heap: Global, tree: &'a Tree) -> Result<Vec<&'a Tree>, AllocError>
-    ensures { IfOk result (λ v. listed v.items ≡ subterm-list (tree_of tree.now)) }
+    ensures { IfOk result (λ v. listed v.items ≡ subterm_list (tree_of tree.now)) }
 {
     let mut seen = Vec::new(heap);
     walk(tree, &mut seen)?;

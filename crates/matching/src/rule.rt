@@ -2,8 +2,8 @@
 ghost use Rattle.std.specs.Prelude.{◌≡◌, map, IfOk};
 ghost use Rattle.explicit.specs.Meaning.{rule_of, term_of, terms_of, tree_of, trees_of};
 ghost use Rattle.rewriting.specs.Matching.{bindings};
-ghost use Rattle.rewriting.specs.Matching.{bound as bound-tree, bound_in as bound-in-trees};
-ghost use Rattle.rewriting.specs.Matching.{contracted as contracted-tree, fitting as fitting-rule, matches as matching};
+ghost use Rattle.rewriting.specs.Matching.{bound as bound_tree, bound_in as bound_in_trees};
+ghost use Rattle.rewriting.specs.Matching.{contracted as contracted_tree, fitting as fitting_rule, matches as matching};
 ghost use Rattle.rewriting.specs.Terms.{apply, applies};
 ghost use Rattle.rewriting.specs.Terms.{same as same_tree, sames as same_trees};
 ghost use Rattle.std.specs.Option.{option_map};
@@ -16,7 +16,7 @@ use std::alloc::{AllocError, Global};
 // What stands in the tree where the left side has the variable for the first time.
 #[cycle(bound_bound_in)]
 pub fn bound<'a>(left: &Term, tree: &'a Tree, variable: u8) -> Option<&'a Tree>
-    ensures { option_map (λ u. tree_of u.now) result ≡ bound-tree (term_of left.now) (tree_of tree.now) variable }
+    ensures { option_map (λ u. tree_of u.now) result ≡ bound_tree (term_of left.now) (tree_of tree.now) variable }
 {
     match left {
         Term::Variable(v) => { if *v == variable { Some(tree) } else { None } }
@@ -26,7 +26,7 @@ pub fn bound<'a>(left: &Term, tree: &'a Tree, variable: u8) -> Option<&'a Tree>
 
 #[cycle(bound_bound_in)]
 fn bound_in<'a>(lefts: &Terms, trees: &'a Trees, variable: u8) -> Option<&'a Tree>
-    ensures { option_map (λ u. tree_of u.now) result ≡ bound-in-trees (terms_of lefts.now) (trees_of trees.now) variable }
+    ensures { option_map (λ u. tree_of u.now) result ≡ bound_in_trees (terms_of lefts.now) (trees_of trees.now) variable }
 {
     match (lefts, trees) {
         (Terms::Cons(l, ls), Trees::Cons(t, ts)) => match bound(l, t, variable) {
@@ -81,7 +81,7 @@ pub fn matches(left: &Term, tree: &Tree) -> bool
 
 // The first rule whose left side matches the tree.
 pub fn fitting<'a>(rules: &'a [Rule], tree: &Tree) -> Option<&'a Rule>
-    ensures { option_map (λ q. rule_of q.now) result ≡ fitting-rule (map rule_of rules.now) (tree_of tree.now) }
+    ensures { option_map (λ q. rule_of q.now) result ≡ fitting_rule (map rule_of rules.now) (tree_of tree.now) }
 {
     for rule in rules {
         if matches(&rule.left, tree) {
@@ -121,7 +121,7 @@ fn all_instances(heap: Global, parts: &Terms, left: &Term, tree: &Tree) -> Resul
 
 // The rule's right side under the match of its left side.
 pub fn contracted(heap: Global, rule: &Rule, tree: &Tree) -> Result<Tree, AllocError>
-    ensures { IfOk result (λ u. tree_of u ≡ contracted-tree (rule_of rule.now) (tree_of tree.now)) }
+    ensures { IfOk result (λ u. tree_of u ≡ contracted_tree (rule_of rule.now) (tree_of tree.now)) }
 {
     instance(heap, &rule.right, &rule.left, tree)
 }

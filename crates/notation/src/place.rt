@@ -2,7 +2,7 @@
 ghost use Rattle.std.specs.Prelude.{◌≡◌, map, drop, IfOk, OnOk};
 ghost use Rattle.explicit.specs.Meaning.{signature, term_of, terms_of};
 ghost use Rattle.notation.specs.Stack.{first, place_of, stack_of};
-ghost use Rattle.rewriting.specs.Places.{firsts, forest as forest-of, grow as grow-terms};
+ghost use Rattle.rewriting.specs.Places.{firsts, forest as forest_of, grow as grow_terms};
 ghost use Rattle.std.specs.Option.{option_map};
 
 use explicit::card::{Symbol, arity};
@@ -39,7 +39,7 @@ fn grow(
     place: Place,
     stack: &mut Vec<Term>,
 ) -> Result<(), AllocError>
-    ensures { OnOk result (stack_of stack.new.items ≡ grow-terms (signature symbols.now) (place_of place) (stack_of stack.old.items)) }
+    ensures { OnOk result (stack_of stack.new.items ≡ grow_terms (signature symbols.now) (place_of place) (stack_of stack.old.items)) }
 {
     let term = match place {
         Place::Variable(v) => Term::Variable(v),
@@ -51,7 +51,7 @@ fn grow(
 
 // The terms that the places make, read from the last place to the first: the first term is on top.
 pub fn forest(heap: Global, symbols: &[Symbol], places: &[Place]) -> Result<Vec<Term>, AllocError>
-    ensures { IfOk result (λ v. stack_of v.items ≡ forest-of (signature symbols.now) (map place_of places.now)) }
+    ensures { IfOk result (λ v. stack_of v.items ≡ forest_of (signature symbols.now) (map place_of places.now)) }
 {
     let mut stack = Vec::new(heap);
     for i in (0..places.len()).rev() {
@@ -66,7 +66,7 @@ pub fn first_term(
     symbols: &[Symbol],
     places: &[Place],
 ) -> Result<Option<Term>, AllocError>
-    ensures { IfOk result (λ o. option_map term_of o ≡ first (forest-of (signature symbols.now) (map place_of places.now))) }
+    ensures { IfOk result (λ o. option_map term_of o ≡ first (forest_of (signature symbols.now) (map place_of places.now))) }
 {
     let mut stack = forest(heap, symbols, places)?;
     Ok(stack.pop())

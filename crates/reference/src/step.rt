@@ -2,9 +2,9 @@
 ghost use Rattle.std.specs.Prelude.{◌≡◌, ◌<◌, length, IfOk};
 ghost use Rattle.explicit.specs.Meaning.{card_of, listed, tree_of, trees_of};
 ghost use Rattle.reference.specs.Records.{Stepped, StepsAt};
-ghost use Rattle.rewriting.specs.Runs.{chosen as chosen-tree, outermost as outermost-place};
-ghost use Rattle.rewriting.specs.Sites.{redexes as redex-list};
-ghost use Rattle.rewriting.specs.Sites.{contractum as contractum-tree, replace as replace-tree, replaces as replace-trees};
+ghost use Rattle.rewriting.specs.Runs.{chosen as chosen_tree, outermost as outermost_place};
+ghost use Rattle.rewriting.specs.Sites.{redexes as redex_list};
+ghost use Rattle.rewriting.specs.Sites.{contractum as contractum_tree, replace as replace_tree, replaces as replace_trees};
 
 use explicit::card::Card;
 use explicit::tree::{Tree, Trees, copy, same};
@@ -22,7 +22,7 @@ pub struct Step {
 
 // A redex by the first rule that fits, and any other tree as it is.
 pub fn contractum(heap: Global, card: &Card, tree: &Tree) -> Result<Tree, AllocError>
-    ensures { IfOk result (λ u. tree_of u ≡ contractum-tree (card_of card.now) (tree_of tree.now)) }
+    ensures { IfOk result (λ u. tree_of u ≡ contractum_tree (card_of card.now) (tree_of tree.now)) }
 {
     match fitting(&card.rules, tree) {
         Some(rule) => contracted(heap, rule, tree),
@@ -33,7 +33,7 @@ pub fn contractum(heap: Global, card: &Card, tree: &Tree) -> Result<Tree, AllocE
 // Every occurrence of `old` replaced by `new`, which is not looked through again.
 #[cycle(replace_replace_all)]
 pub fn replace(heap: Global, old: &Tree, new: &Tree, tree: &Tree) -> Result<Tree, AllocError>
-    ensures { IfOk result (λ u. tree_of u ≡ replace-tree (tree_of old.now) (tree_of new.now) (tree_of tree.now)) }
+    ensures { IfOk result (λ u. tree_of u ≡ replace_tree (tree_of old.now) (tree_of new.now) (tree_of tree.now)) }
 {
     if same(old, tree) {
         return copy(heap, new);
@@ -46,7 +46,7 @@ pub fn replace(heap: Global, old: &Tree, new: &Tree, tree: &Tree) -> Result<Tree
 
 #[cycle(replace_replace_all)]
 fn replace_all(heap: Global, old: &Tree, new: &Tree, trees: &Trees) -> Result<Trees, AllocError>
-    ensures { IfOk result (λ us. trees_of us ≡ replace-trees (tree_of old.now) (tree_of new.now) (trees_of trees.now)) }
+    ensures { IfOk result (λ us. trees_of us ≡ replace_trees (tree_of old.now) (tree_of new.now) (trees_of trees.now)) }
 {
     match trees {
         Trees::Nil => Ok(Trees::Nil),
@@ -65,9 +65,9 @@ fn chosen<'a>(
     redexes: &[&'a Tree],
     tree: &Tree,
 ) -> Result<&'a Tree, AllocError>
-    requires all { listed redexes.now ≡ redex-list (card_of card.now) (tree_of tree.now) }
+    requires all { listed redexes.now ≡ redex_list (card_of card.now) (tree_of tree.now) }
     requires some { 0 < length redexes.now }
-    ensures { IfOk result (λ u. tree_of u.now ≡ chosen-tree (card_of card.now) outermost-place (tree_of tree.now)) }
+    ensures { IfOk result (λ u. tree_of u.now ≡ chosen_tree (card_of card.now) outermost_place (tree_of tree.now)) }
 {
     let sites = sites(heap, card, tree)?;
     Ok(redexes[outermost(&sites)])

@@ -2,10 +2,10 @@
 ghost use Rattle.std.specs.Prelude.{◌≡◌, not, [], map, IfOk};
 ghost use Rattle.explicit.specs.Meaning.{card_of, listed, tree_of, trees_of};
 ghost use Rattle.sites.specs.Records.{site_of};
-ghost use Rattle.rewriting.specs.Matching.{fitting as fitting-rule};
-ghost use Rattle.rewriting.specs.Runs.{outermost as outermost-place};
+ghost use Rattle.rewriting.specs.Matching.{fitting as fitting_rule};
+ghost use Rattle.rewriting.specs.Runs.{outermost as outermost_place};
 ghost use Rattle.rewriting.specs.Sites.{any, keep, proper, redex, rule_number};
-ghost use Rattle.rewriting.specs.Sites.{redexes as redex-list, sites as site-list, sites_from};
+ghost use Rattle.rewriting.specs.Sites.{redexes as redex_list, sites as site_list, sites_from};
 ghost use Rattle.rewriting.specs.Subterms.{member, walk, walks};
 
 use explicit::card::Card;
@@ -27,7 +27,7 @@ pub struct Site {
 
 // The number of the first rule that fits, or 0.
 pub fn fitting_number(card: &Card, tree: &Tree) -> u16
-    ensures { result ≡ rule_number (fitting-rule (card_of card.now).rules (tree_of tree.now)) }
+    ensures { result ≡ rule_number (fitting_rule (card_of card.now).rules (tree_of tree.now)) }
 {
     match fitting(&card.rules, tree) {
         Some(rule) => rule.number,
@@ -59,7 +59,7 @@ fn redexes_among<'a>(
 
 // The subterms of the tree that are redexes, in sheet order.
 pub fn redexes<'a>(heap: Global, card: &Card, tree: &'a Tree) -> Result<Vec<&'a Tree>, AllocError>
-    ensures { IfOk result (λ v. listed v.items ≡ redex-list (card_of card.now) (tree_of tree.now)) }
+    ensures { IfOk result (λ v. listed v.items ≡ redex_list (card_of card.now) (tree_of tree.now)) }
 {
     let order = subterms(heap, tree)?;
     redexes_among(heap, card, &order)
@@ -132,7 +132,7 @@ fn sites_among(
 
 // The sites of the tree in sheet order.
 pub fn sites(heap: Global, card: &Card, tree: &Tree) -> Result<Vec<Site>, AllocError>
-    ensures { IfOk result (λ v. map site_of v.items ≡ site-list (card_of card.now) (tree_of tree.now)) }
+    ensures { IfOk result (λ v. map site_of v.items ≡ site_list (card_of card.now) (tree_of tree.now)) }
 {
     let order = subterms(heap, tree)?;
     let redexes = redexes_among(heap, card, &order)?;
@@ -141,7 +141,7 @@ pub fn sites(heap: Global, card: &Card, tree: &Tree) -> Result<Vec<Site>, AllocE
 
 // The place of the first site marked outer. Every tree with a site has one; of other lists it is the first place.
 pub fn outermost(sites: &[Site]) -> usize
-    ensures { result ≡ outermost-place (map site_of sites.now) }
+    ensures { result ≡ outermost_place (map site_of sites.now) }
 {
     for (i, site) in sites.iter().enumerate() {
         if site.outer {

@@ -2,6 +2,7 @@
 // sheet; or why the card or the recipe is refused.
 
 #![tactic(auto)]
+
 mod input;
 
 use card::record::{Place, RuleRecord, SymbolRecord};
