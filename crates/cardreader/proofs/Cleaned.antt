@@ -1,5 +1,5 @@
 -- The cleaned text in the buffer. Assumes nothing.
-use Rattle.std.proofs.Common.{◌≡◌, ℕ, suc, ◌-◌, List, [], ◌∷◌, ◌++◌, length, take, replicate, Some, Option, sym, refl, ap, ◌∙◌, subst, arith, MatchOption}
+use Rattle.std.proofs.Common.{◌≡◌, ℕ, ◌-◌, List, [], ◌∷◌, ◌++◌, length, take, replicate, Some, Option, refl, ap, ◌∙◌, subst, arith, MatchOption}
 use Rattle.cardtext.specs.Cleaning.{cleaned, Holds, TooShort}
 
 front : (xs ys : List ℕ) → take (length xs) (xs ++ ys) ≡ xs

@@ -1,5 +1,5 @@
 -- What the line that a cursor hands out makes of the lines still to come. Assumes nothing.
-use Rattle.std.proofs.Common.{◌≡◌, ℕ, suc, ◌<◌, Bool, true, false, List, ◌∷◌, length, set, Decides, sym, refl, ap, ◌∙◌, subst, add-one}
+use Rattle.std.proofs.Common.{◌≡◌, ℕ, suc, ◌<◌, Bool, true, false, List, ◌∷◌, length, set, Decides, sym, ap, ◌∙◌, add-one}
 use Rattle.std.specs.List.{ContainsAt as Has}
 use Rattle.card.specs.declared.record.SymbolRecord.{SymbolRecord}
 use Rattle.card.specs.declared.record.RuleRecord.{RuleRecord}
@@ -9,7 +9,7 @@ use Rattle.cardtext.specs.Cursors.{HandsOut, rest_lines}
 use Rattle.draft.specs.declared.draft.RuleDraft.{RuleDraft}
 use Rattle.draft.specs.declared.draft.SymbolDraft.{SymbolDraft}
 use Rattle.reading.specs.Faults.{refusal_of}
-use Rattle.cardreader.specs.CardTexts.{Outcome, refused, has_equals, misplaced, rule_lines, symbol_lines}
+use Rattle.cardreader.specs.CardTexts.{Outcome, refused, misplaced, rule_lines, symbol_lines}
 use Rattle.cardreader.specs.Reading.{rules_outcome, symbols_outcome, RulesBegin}
 use Rattle.cardreader.specs.Taking.{TakesRule, BreaksRule, TakesSymbol, BreaksSymbol}
 use Rattle.cardreader.proofs.LineSteps.{equals_is, rule_misplaced, rule_goes_on, rule_stops, symbols_end, symbol_goes_on, symbol_stops}

@@ -1,5 +1,5 @@
 -- The lines of a card one by one. Assumes nothing.
-use Rattle.std.proofs.Common.{◌≡◌, ℕ, suc, ◌<◌, ◌≤◌, Bool, true, false, eqb, List, [], ◌∷◌, length, take, set, Decides, sym, refl, ap, ◌∙◌, subst, arith}
+use Rattle.std.proofs.Common.{◌≡◌, ℕ, suc, ◌<◌, ◌≤◌, Bool, true, false, eqb, List, [], ◌∷◌, length, take, set, Decides, sym, refl, ap, ◌∙◌, arith}
 use Rattle.std.specs.List.{ContainsAt as Has}
 use Rattle.std.proofs.lemmas.Bool.Decides.{Decides-by_or, Decides-eqb, same_from_decides}
 use Rattle.std.proofs.lemmas.Bool.{true≢false}
@@ -8,7 +8,7 @@ use Rattle.card.specs.declared.record.RuleRecord.{RuleRecord}
 use Rattle.reading.specs.declared.fault.Fault.{Fault}
 use Rattle.reading.specs.Faults.{refusal_of}
 use Rattle.reading.specs.Lines.{taken, broken, symbol_line, rule_line}
-use Rattle.cardreader.specs.CardTexts.{Outcome, accepted, refused, has_equals, misplaced, rule_step, rule_lines, symbol_step, symbol_lines}
+use Rattle.cardreader.specs.CardTexts.{refused, has_equals, misplaced, rule_step, rule_lines, symbol_step, symbol_lines}
 
 -- the test for "=" is the definition's
 pub equals_is : (xs : List ℕ) (r : Bool) → Decides r (Has xs 61) → r ≡ has_equals xs

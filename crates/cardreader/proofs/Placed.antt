@@ -1,10 +1,9 @@
 -- A refused line stands among the lines. Assumes nothing.
-use Rattle.std.proofs.Common.{◌≡◌, ℕ, suc, ◌+◌, ◌<◌, Bool, true, false, List, [], ◌∷◌, length, get_or, take, set, sym, refl, ap, ◌∙◌, subst, arith}
+use Rattle.std.proofs.Common.{◌≡◌, ℕ, suc, ◌+◌, ◌<◌, Bool, true, false, List, [], ◌∷◌, length, get_or, take, set, ◌∙◌, arith}
 use Rattle.card.specs.declared.record.SymbolRecord.{SymbolRecord}
 use Rattle.card.specs.declared.record.RuleRecord.{RuleRecord}
-use Rattle.card.specs.declared.refusal.Refusal.{Refusal}
 use Rattle.reading.specs.Lines.{Line, taken, broken, symbol_line, rule_line}
-use Rattle.cardreader.specs.CardTexts.{Outcome, accepted, refused, has_equals, misplaced, rule_step, rule_lines, symbol_step, symbol_lines}
+use Rattle.cardreader.specs.CardTexts.{Outcome, accepted, refused, has_equals, rule_step, rule_lines, symbol_step, symbol_lines}
 
 -- behind k lines, the line with number j
 pub record At (k : ℕ) (ls : List (List ℕ)) (j : ℕ) : Type 0 where

@@ -1,5 +1,5 @@
 -- The laws of card texts. Assumes nothing.
-use Rattle.std.proofs.Common.{◌≡◌, ◌+◌, sym, refl, ap, ◌∙◌, subst, arith}
+use Rattle.std.proofs.Common.{ap, ◌∙◌, subst, arith}
 use Rattle.cardtext.specs.Cleaning.{cleaned}
 use Rattle.cardtext.specs.Lines.{lines}
 use Rattle.cardtext.proofs.Cleaning.{cleaning_twice_is_cleaning_once}

@@ -1,9 +1,9 @@
 -- The records behind the counted ones stay as they were. Assumes nothing.
-use Rattle.std.proofs.Common.{◌≡◌, ℕ, suc, ◌<◌, ◌≤◌, Bool, true, false, List, [], ◌∷◌, take, drop, set, sym, refl, ap, ◌∙◌, subst, arith, drop-set-lt}
+use Rattle.std.proofs.Common.{◌≡◌, ℕ, suc, ◌≤◌, Bool, true, false, List, [], ◌∷◌, take, drop, set, refl, ◌∙◌, arith, drop-set-lt}
 use Rattle.card.specs.declared.record.SymbolRecord.{SymbolRecord}
 use Rattle.card.specs.declared.record.RuleRecord.{RuleRecord}
 use Rattle.reading.specs.Lines.{Line, taken, broken, symbol_line, rule_line}
-use Rattle.cardreader.specs.CardTexts.{Outcome, accepted, refused, has_equals, misplaced, rule_step, rule_lines, symbol_step, symbol_lines}
+use Rattle.cardreader.specs.CardTexts.{Outcome, accepted, refused, has_equals, rule_step, rule_lines, symbol_step, symbol_lines}
 
 -- with m symbols and n rules counted before
 pub record Behind (m n : ℕ) (ss ss' : List SymbolRecord) (rs rs' : List RuleRecord) (i j : ℕ) : Type 0 where

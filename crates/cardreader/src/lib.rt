@@ -5,6 +5,7 @@
 // to the card or tears it up, and `reader` has the call.
 
 #![tactic(auto)]
+
 pub mod fault;
 pub mod laws;
 mod lines;

@@ -8,6 +8,7 @@
 // The reader of whole cards, which drives drafts over these lines, is to stand above this crate and is no part of it.
 
 #![tactic(auto)]
+
 pub mod clean;
 pub mod cursor;
 pub mod laws;

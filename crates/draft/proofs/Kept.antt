@@ -1,5 +1,5 @@
 -- A line that is taken keeps the card's rules. Assumes nothing.
-use Rattle.std.proofs.Common.{◌≡◌, ℕ, ◌+◌, ◌<◌, ◌≤◌, ◌⊎◌, List, [], ◌∷◌, ◌++◌, length, get_or, take, set, sym, refl, ap, ◌∙◌, subst, inl, inr, ⊎_elim, arith, length-set}
+use Rattle.std.proofs.Common.{◌≡◌, ℕ, ◌+◌, ◌<◌, List, [], ◌∷◌, ◌++◌, length, get_or, take, sym, ap, ◌∙◌, subst, ⊎_elim, arith, length-set}
 use lib.ListN.{get_or-append}
 use Rattle.std.proofs.lemmas.List.{take_more_set, length-take-le, get_or_push, length_push}
 use Rattle.std.proofs.ByRecursion.{All-push}

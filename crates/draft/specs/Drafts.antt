@@ -1,5 +1,5 @@
 -- What each call of a draft does to its counts and to the two tables. Assumes nothing.
-use Rattle.std.specs.Prelude.{◌≡◌, ℕ, ◌+◌, List, take, slice_set}
+use Rattle.std.specs.Prelude.{◌≡◌, ℕ, List, take, slice_set}
 use Rattle.card.specs.Records.{Kept}
 use Rattle.card.specs.declared.record.Card.{Card}
 use Rattle.card.specs.declared.record.SymbolRecord.{SymbolRecord}

@@ -9,6 +9,7 @@
 // draft on some way out is not proved; and a `RuleDraft` has no call that takes a symbol, so that one is no program at all.
 
 #![tactic(auto)]
+
 pub mod draft;
 pub mod laws;
 pub mod wipe;

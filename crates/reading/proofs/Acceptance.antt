@@ -1,5 +1,5 @@
 -- A text is accepted exactly if it is the written form of an allowed term. Assumes nothing.
-use Rattle.std.proofs.Common.{◌≡◌, ℕ, ◌≤◌, Bool, true, false, ltb, ◌↔◌, List, [], ◌∷◌, ◌++◌, map, length, Ok, Err, Result, sym, refl, ap, ◌∙◌, subst, ap₂, append-nil, arith}
+use Rattle.std.proofs.Common.{◌≡◌, ℕ, ◌≤◌, Bool, true, false, ltb, ◌↔◌, List, [], ◌∷◌, ◌++◌, map, length, Ok, Err, Result, sym, refl, ap, ◌∙◌, ap₂, append-nil, arith}
 use Rattle.rewriting.specs.Terms.{Term}
 use Rattle.rewriting.specs.Places as theory
 use Rattle.rewriting.proofs.Reading.{forest_of_places}

@@ -1,17 +1,15 @@
 -- The automaton's steps, by the byte that comes next. Assumes nothing.
-use Rattle.std.proofs.Common.{◌≡◌, ℕ, zero, suc, ◌+◌, ◌<◌, ◌≤◌, Bool, true, false, eqb, leb, List, [], ◌∷◌, ◌++◌, length, drop, Some, None, Ok, Err, Option, Result, sym, refl, ap, ◌∙◌, subst, ap₂, append_assoc, append-nil, arith, length-append}
+use Rattle.std.proofs.Common.{◌≡◌, ℕ, suc, ◌+◌, ◌<◌, ◌≤◌, true, false, leb, List, [], ◌∷◌, ◌++◌, length, drop, Some, None, Option, sym, refl, ap, ◌∙◌, subst, append_assoc, append-nil, arith, length-append}
 use Rattle.std.specs.List.{AllByRecursion as All}
-use Rattle.std.proofs.lemmas.Bool.{lt-leb, le-leb, eq-eqb, ne_eqb, true≢false}
+use Rattle.std.proofs.lemmas.Bool.{lt-leb, le-leb, true≢false}
 use Rattle.card.specs.Bytes.{letter, filled}
 use Rattle.card.specs.Records.{find_from}
 use Rattle.card.specs.declared.record.Place.{Place}
-use Rattle.card.specs.declared.record.Place.TheVariants.{Symbol, Variable}
-use Rattle.reading.specs.declared.fault.Fault.{Fault}
-use Rattle.reading.specs.declared.fault.Fault.TheVariants.{NameTooLong, UnknownName, ConstantOpened, BracketMissing, TooManyChildren, TooFewChildren, TooDeep, TooManyPlaces, WrongByte, EarlyEnd}
-use Rattle.reading.specs.Scanning.{Grammar, Mode, at_start, in_name, behind, Scan, whole, stuck, variable_at, scan_variable, scan_behind, end_behind, scan_named, end_named, scan_judged, end_judged, arity_at, scan}
+use Rattle.card.specs.declared.record.Place.TheVariants.{Symbol}
+use Rattle.reading.specs.declared.fault.Fault.TheVariants.{NameTooLong, UnknownName, ConstantOpened, BracketMissing, TooManyChildren, TooFewChildren, TooDeep, TooManyPlaces, EarlyEnd}
+use Rattle.reading.specs.Scanning.{Grammar, at_start, in_name, behind, Scan, whole, stuck, variable_at, scan_variable, scan_behind, scan_named, scan_judged, end_judged, arity_at, scan}
 use Rattle.reading.specs.Sources.{first, at_letter, next_is, unexpected}
-use Rattle.reading.specs.Progress.{behind_head}
-use Rattle.reading.proofs.Letters.{first_rest, first_none, at_letter_first}
+use Rattle.reading.proofs.Letters.{first_rest, first_none}
 
 -- a text, by its next byte
 pub by_first : (P : List ℕ → Type 0) (xs : List ℕ) (b : ℕ) → first xs ≡ Some b → P (b ∷ drop 1 xs) → P xs

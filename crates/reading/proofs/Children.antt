@@ -1,11 +1,10 @@
 -- A term and its children: one stretch of reading behind another. Assumes nothing.
-use Rattle.std.proofs.Common.{◌≡◌, ℕ, zero, suc, ◌+◌, ◌-◌, ◌<◌, ◌≤◌, Bool, true, false, List, [], ◌∷◌, ◌++◌, length, take, drop, set, Result, sym, refl, ap, ◌∙◌, subst, ap₂, arith, length-drop, MatchResult}
+use Rattle.std.proofs.Common.{◌≡◌, ℕ, suc, ◌+◌, ◌-◌, ◌<◌, ◌≤◌, true, false, List, [], ◌∷◌, ◌++◌, length, take, drop, set, sym, ap, ◌∙◌, arith, length-drop}
 use Rattle.std.proofs.lemmas.List.{take_more_set, length-take-le, drop-drop, drop-set-lt}
-use Rattle.std.proofs.lemmas.Result.{MatchResult-weaker}
 use Rattle.card.specs.declared.record.Place.{Place}
 use Rattle.reading.specs.declared.fault.Fault.{Fault}
 use Rattle.reading.specs.declared.fault.Fault.TheVariants.{TooManyChildren, TooFewChildren}
-use Rattle.reading.specs.Scanning.{Grammar, Mode, at_start, behind, stuck, scan}
+use Rattle.reading.specs.Scanning.{Grammar, at_start, behind, scan}
 use Rattle.reading.specs.Sources.{next_is, unexpected}
 use Rattle.reading.specs.Progress.{behind_head, HeadRead, HeadStuck, Advanced, Stopped, next_child}
 use Rattle.reading.proofs.Automaton.{behind_surplus, behind_comma, behind_early, behind_close, behind_unexpected}

@@ -1,5 +1,5 @@
 -- The head of a term: what was read of it against what the automaton does. Assumes nothing.
-use Rattle.std.proofs.Common.{◌≡◌, ℕ, zero, suc, ◌+◌, ◌<◌, ◌≤◌, Bool, true, false, leb, List, [], ◌∷◌, ◌++◌, length, get_or, drop, Some, None, Ok, Err, Option, Result, sym, refl, ap, ◌∙◌, subst, ap₂, arith, length-append, length-drop, MatchOption, MatchResult}
+use Rattle.std.proofs.Common.{◌≡◌, ℕ, zero, suc, ◌<◌, ◌≤◌, true, false, leb, List, [], ◌∷◌, ◌++◌, length, get_or, drop, Some, None, Ok, Err, Result, sym, refl, ap, ◌∙◌, subst, ap₂, arith, length-append, length-drop, MatchOption}
 use Rattle.std.proofs.lemmas.List.{get_or_default}
 use Rattle.std.proofs.lemmas.Bool.{lt-leb, le-leb, true≢false}
 use Rattle.card.specs.Bytes.{letter}
@@ -10,8 +10,8 @@ use Rattle.card.specs.declared.record.SymbolRecord.{SymbolRecord}
 use Rattle.card.proofs.Finding.{name_is_found_exactly}
 use Rattle.reading.specs.declared.fault.Fault.{Fault}
 use Rattle.reading.specs.declared.fault.Fault.TheVariants.{NameTooLong, UnknownName, ConstantOpened, BracketMissing, TooDeep, TooManyPlaces, EarlyEnd}
-use Rattle.reading.specs.Scanning.{Grammar, at_start, in_name, behind, stuck, scan, arity_at, variable_at, scan_variable}
-use Rattle.reading.specs.Sources.{first, at_letter, next_is, Taken, NameTaken, NameGoesOn}
+use Rattle.reading.specs.Scanning.{Grammar, at_start, behind, scan, arity_at, variable_at, scan_variable}
+use Rattle.reading.specs.Sources.{first, at_letter, next_is, NameTaken, NameGoesOn}
 use Rattle.reading.specs.Progress.{behind_head, HeadRead, HeadStuck}
 use Rattle.reading.proofs.Letters.{first_rest, at_letter_first}
 use Rattle.reading.proofs.Automaton.{start_at_end, start_full, start_variable, start_takes, name_too_long, name_over, judged, judged_unknown, judged_opened_constant, judged_constant, judged_missing, judged_deep, judged_open}

@@ -1,6 +1,5 @@
 -- A text that is read to a whole term begins with that term's written form. Assumes nothing.
-use Rattle.std.proofs.Common.{◌≡◌, ℕ, zero, suc, ◌+◌, ◌-◌, ◌<◌, ◌≤◌, max, Bool, true, false, ◌&&◌, ◌||◌, eqb, leb, ◌⊎◌, List, [], ◌∷◌, ◌++◌, map, length, get_or, drop, Some, None, Ok, Err, Option, Result, sym, refl, ap, ◌∙◌, subst, ap₂, inl, inr, ⊎_elim, append_assoc, append-nil, arith, length-append, MatchOption}
-use native.Mathlib.Nat.{max_le}
+use Rattle.std.proofs.Common.{◌≡◌, ℕ, zero, suc, ◌+◌, ◌-◌, ◌<◌, ◌≤◌, max, Bool, true, false, leb, List, [], ◌∷◌, ◌++◌, map, length, get_or, drop, Some, None, Ok, Err, Option, Result, sym, refl, ap, ◌∙◌, subst, ap₂, ⊎_elim, append_assoc, append-nil, arith, length-append, MatchOption}
 use Rattle.std.specs.List.{AllByRecursion as All}
 use Rattle.std.proofs.lemmas.Bool.{leb-true, leb-false, eqb-true, and_parts, or_cases, cases_lt, true≢false}
 use Rattle.std.proofs.lemmas.List.{length-map, map-append}
@@ -16,8 +15,8 @@ use Rattle.card.proofs.Finding.{name_is_found_exactly}
 use Rattle.reading.specs.declared.fault.Fault.{Fault}
 use Rattle.reading.specs.declared.fault.Fault.TheVariants.{WrongByte, TooManyPlaces, UnboundVariable, NameTooLong}
 use Rattle.reading.specs.Scanning.{Grammar, at_start, in_name, behind, Scan, whole, stuck, scan, arity_at, variable_at, scan_variable, variable_letter}
-use Rattle.reading.specs.Sources.{first, at_letter, next_is}
-use Rattle.reading.specs.Written.{written, written_children, written_rest, nesting, nesting_children, nesting_rest, May, Allowed, TextOf}
+use Rattle.reading.specs.Sources.{next_is}
+use Rattle.reading.specs.Written.{written, written_rest, nesting, nesting_rest, May, Allowed, TextOf}
 use Rattle.reading.proofs.Automaton.{judged, judged_unknown, judged_opened_constant, judged_constant, judged_missing, judged_deep, judged_open, behind_surplus, behind_comma, behind_early, behind_close, behind_unexpected, behind_top}
 use Rattle.card.proofs.Naming.{letters_of_filled}
 use Rattle.reading.proofs.Spelling.{found_arity, spread}

@@ -1,5 +1,5 @@
 -- The refusals of recipes and lines. Assumes nothing.
-use Rattle.std.proofs.Common.{◌≡◌, ℕ, ◌-◌, ◌<◌, Bool, true, false, eqb, ltb, leb, List, [], ◌∷◌, ◌++◌, length, replicate, Some, None, Ok, Err, Option, Result, refl, subst, arith}
+use Rattle.std.proofs.Common.{◌≡◌, ℕ, ◌-◌, ◌<◌, Bool, true, false, eqb, ltb, leb, List, [], ◌∷◌, ◌++◌, length, replicate, Some, None, Err, Option, Result, refl, subst, arith}
 use Rattle.std.proofs.lemmas.Bool.{leb-true, leb-false}
 use Rattle.card.specs.Bytes.{letter, filled}
 use Rattle.card.specs.Records.{find_from}
@@ -9,11 +9,11 @@ use Rattle.card.specs.declared.record.RuleRecord.{RuleRecord}
 use Rattle.card.specs.declared.refusal.Refusal.{Refusal}
 use Rattle.card.specs.declared.refusal.Refusal.TheVariants.{TextTooLong}
 use Rattle.reading.specs.declared.fault.Fault.{Fault}
-use Rattle.reading.specs.declared.fault.Fault.TheVariants.{NameTooLong, WrongByte, EarlyEnd, TooManyLines, DigitTooLarge, NameTaken, LoneVariable}
+use Rattle.reading.specs.declared.fault.Fault.TheVariants.{NameTooLong, WrongByte, TooManyLines, DigitTooLarge, LoneVariable}
 use Rattle.reading.specs.Faults.{refusal_of}
 use Rattle.reading.specs.Scanning.{at_start, Scan, whole, stuck, scan}
 use Rattle.reading.specs.Lines.{Line, taken, broken, line_end, digit, symbol_digit, symbol_new, symbol_slash, symbol_name, symbol_line, variables_of, side_grammar, lone_variable, rule_right, rule_equals, rule_left, rule_line}
-use Rattle.reading.specs.Recipes.{recipe_grammar, recipe_read, recipe}
+use Rattle.reading.specs.Recipes.{recipe_grammar, recipe_read}
 use Rattle.reading.specs.Refusing.{numbered, RecipeRefusals, SymbolLineRefusals, RuleLineRefusals}
 use Rattle.reading.proofs.Stopping.{Only, Covers, scan_only}
 

@@ -1,22 +1,22 @@
 -- A rule line that is taken is the written form of a rule that keeps the card's rules. Assumes nothing.
-use Rattle.std.proofs.Common.{◌≡◌, ℕ, zero, suc, ◌-◌, ◌<◌, ◌≤◌, Bool, true, false, ◌||◌, eqb, leb, ◌⊎◌, List, [], ◌∷◌, ◌++◌, map, length, get_or, set, replicate, Some, sym, refl, ap, ◌∙◌, subst, ap₂, inl, inr, ⊎_elim, append_assoc, append-nil, arith}
-use Rattle.std.proofs.lemmas.List.{length-map, get_or-set_same, get_or-set_other, get_or-replicate}
-use Rattle.std.proofs.lemmas.Bool.{leb-false, eqb-true, eq-eqb, cases_eq, cases_lt, or_left, or_right, true≢false}
+use Rattle.std.proofs.Common.{◌≡◌, ℕ, zero, suc, ◌-◌, ◌<◌, Bool, true, false, ◌||◌, eqb, leb, ◌⊎◌, List, [], ◌∷◌, ◌++◌, map, length, get_or, set, replicate, sym, refl, ap, ◌∙◌, subst, ap₂, inl, inr, ⊎_elim, append-nil, arith}
+use Rattle.std.proofs.lemmas.List.{length-map}
+use Rattle.std.proofs.lemmas.Bool.{leb-false, eqb-true, eq-eqb, or_left, or_right, true≢false}
 use Rattle.rewriting.specs.Terms.{Term, var, app, Terms, nilᵗ, consᵗ, occurs, occurs_in}
 use Rattle.rewriting.specs.Cards.{NoLoneVariable}
 use Rattle.rewriting.specs.Places as theory
-use Rattle.card.specs.Records.{arities, stored, SideIs, RuleIs}
+use Rattle.card.specs.Records.{arities, stored, SideIs}
 use Rattle.card.specs.declared.record.Place.{Place}
-use Rattle.card.specs.declared.record.Place.TheVariants.{Empty, Symbol, Variable}
+use Rattle.card.specs.declared.record.Place.TheVariants.{Empty}
 use Rattle.card.specs.declared.record.SymbolRecord.{SymbolRecord}
 use Rattle.card.specs.declared.record.RuleRecord.{RuleRecord}
 use Rattle.reading.specs.declared.fault.Fault.{Fault}
 use Rattle.reading.specs.declared.fault.Fault.TheVariants.{TooManyLines, WrongByte, LoneVariable}
-use Rattle.reading.specs.Scanning.{Grammar, at_start, Scan, whole, stuck, scan}
+use Rattle.reading.specs.Scanning.{at_start, Scan, whole, stuck, scan}
 use Rattle.reading.specs.Lines.{Line, taken, broken, line_end, marked, variables_of, side_grammar, lone_variable, side, rule_right, rule_equals, rule_left, rule_line}
-use Rattle.reading.specs.Written.{written, May, Allowed, ProperSymbols}
+use Rattle.reading.specs.Written.{written, Allowed}
 use Rattle.reading.specs.CardLines.{RuleWritten}
-use Rattle.reading.proofs.Peeling.{Front, front_peeled}
+use Rattle.reading.proofs.Peeling.{front_peeled}
 
 never : {X A : Type 0} {f : Fault} {rest : List ℕ} {x : X} → broken f rest ≡ taken x → A
 never e = let z : ◌≡◌ {A = ℕ} 0 1 = cc in absurd (omega arith)

@@ -1,17 +1,17 @@
 -- A rule line: its two sides and the "=" between them. Assumes nothing.
-use Rattle.std.proofs.Common.{◌≡◌, ℕ, zero, suc, ◌+◌, ◌-◌, ◌<◌, ◌≤◌, min, Bool, true, false, eqb, leb, List, [], ◌∷◌, ◌++◌, length, get_or, take, drop, set, replicate, is_some, sym, refl, ap, ◌∙◌, subst, ap₂, ⊎_elim, arith}
+use Rattle.std.proofs.Common.{◌≡◌, ℕ, zero, suc, ◌+◌, ◌-◌, ◌<◌, ◌≤◌, min, Bool, true, false, leb, List, [], ◌∷◌, ◌++◌, length, get_or, take, drop, set, replicate, is_some, sym, refl, ap, ◌∙◌, ap₂, ⊎_elim, arith}
 use Rattle.std.proofs.lemmas.List.{take_all, length-take-le, drop-replicate, take-append-drop, at_drop_more}
-use Rattle.std.proofs.lemmas.Bool.{lt-leb, eqb-true, cases_lt, true≢false}
+use Rattle.std.proofs.lemmas.Bool.{lt-leb, cases_lt, true≢false}
 use Rattle.card.specs.declared.record.Place.{Place}
 use Rattle.card.specs.declared.record.Place.TheVariants.{Empty, Symbol, Variable}
 use Rattle.card.specs.declared.record.SymbolRecord.{SymbolRecord}
 use Rattle.card.specs.declared.record.RuleRecord.{RuleRecord}
 use Rattle.reading.specs.declared.fault.Fault.{Fault}
 use Rattle.reading.specs.declared.fault.Fault.TheVariants.{WrongByte, LoneVariable}
-use Rattle.reading.specs.Scanning.{Grammar, at_start, behind, whole, stuck, scan}
+use Rattle.reading.specs.Scanning.{Grammar, at_start, behind, stuck, scan}
 use Rattle.reading.specs.Sources.{first, next_is}
 use Rattle.reading.specs.Progress.{Advanced}
-use Rattle.reading.specs.Lines.{Line, taken, broken, line_end, marked, variables_of, side_grammar, lone_variable, side, rule_right, rule_equals, rule_left, rule_line, SideRead}
+use Rattle.reading.specs.Lines.{taken, broken, line_end, marked, variables_of, side_grammar, lone_variable, side, rule_right, rule_equals, rule_left, rule_line, SideRead}
 use Rattle.reading.proofs.Automaton.{behind_top}
 
 -- A SIDE

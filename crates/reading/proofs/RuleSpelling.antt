@@ -1,11 +1,11 @@
 -- The written form of a rule is taken as that rule. Assumes nothing.
-use Rattle.std.proofs.Common.{◌≡◌, ℕ, zero, suc, ◌+◌, ◌-◌, ◌<◌, ◌≤◌, max, Bool, true, false, ◌||◌, eqb, leb, ◌↔◌, List, [], ◌∷◌, ◌++◌, map, length, get_or, set, replicate, sym, refl, ap, ◌∙◌, subst, ap₂, arith, length-append, length-set}
+use Rattle.std.proofs.Common.{◌≡◌, ℕ, zero, suc, ◌-◌, ◌<◌, ◌≤◌, Bool, true, false, ◌||◌, eqb, leb, ◌↔◌, List, [], ◌∷◌, ◌++◌, map, length, get_or, set, replicate, sym, refl, ap, ◌∙◌, subst, ap₂, arith, length-append, length-set}
 use Rattle.std.proofs.lemmas.List.{length-map, get_or-set_same, get_or-replicate}
 use Rattle.std.proofs.lemmas.Bool.{lt-leb, eqb-true, true≢false}
 use Rattle.rewriting.specs.Terms.{Term, var, app, Terms, nilᵗ, consᵗ, occurs}
 use Rattle.rewriting.specs.Cards.{NoLoneVariable}
 use Rattle.rewriting.specs.Places as theory
-use Rattle.card.specs.Records.{arities, stored, SideIs, RuleIs}
+use Rattle.card.specs.Records.{arities, stored, SideIs}
 use Rattle.card.specs.declared.record.Place.{Place}
 use Rattle.card.specs.declared.record.Place.TheVariants.{Empty}
 use Rattle.card.specs.declared.record.SymbolRecord.{SymbolRecord}

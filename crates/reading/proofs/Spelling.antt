@@ -1,23 +1,22 @@
 -- The written form of a term is read as that term. Assumes nothing.
-use Rattle.std.proofs.Common.{◌≡◌, ℕ, zero, suc, ◌+◌, ◌-◌, ◌<◌, ◌≤◌, max, Bool, true, false, ◌&&◌, ◌||◌, eqb, leb, List, [], ◌∷◌, ◌++◌, map, length, get_or, drop, replicate, Some, None, Ok, Err, Option, sym, refl, ap, ◌∙◌, subst, ap₂, append_assoc, append-nil, arith, length-append}
-use native.Mathlib.Nat.{le_max_left, le_max_right}
-use Rattle.std.specs.List.{AllByRecursion as All}
+use Rattle.std.proofs.Common.{◌≡◌, ℕ, zero, suc, ◌+◌, ◌-◌, ◌<◌, ◌≤◌, Bool, true, false, leb, List, [], ◌∷◌, ◌++◌, map, length, get_or, Some, None, Ok, Option, sym, refl, ap, ◌∙◌, append_assoc, append-nil, arith, length-append}
+use native.Mathlib.Nat.{le-max_left, le-max_right}
 use Rattle.std.proofs.ByRecursion.{All-get_or}
-use Rattle.std.proofs.lemmas.Bool.{lt-leb, le-leb, leb-true, eq-eqb, and_parts, or_left, or_right, true≢false}
+use Rattle.std.proofs.lemmas.Bool.{lt-leb, le-leb, eq-eqb, or_left, or_right}
 use Rattle.std.proofs.lemmas.List.{length-map, map-append}
 use Rattle.rewriting.specs.Terms.{Term, var, app, Terms, nilᵗ, consᵗ, countᵗ, occurs, occurs_in}
-use Rattle.rewriting.specs.Cards.{Signature, signature, TermOn, TermsOn}
+use Rattle.rewriting.specs.Cards.{TermOn, TermsOn}
 use Rattle.rewriting.specs.Places as theory
 use Rattle.card.specs.Bytes.{letter, filled, Name}
-use Rattle.card.specs.Records.{arities, blank_symbol, stored, find_from, WellFormedSymbol, DistinctNames, name_of}
+use Rattle.card.specs.Records.{arities, blank_symbol, stored, find_from, WellFormedSymbol, name_of}
 use Rattle.card.specs.declared.record.Place.{Place}
-use Rattle.card.specs.declared.record.Place.TheVariants.{Symbol, Variable}
+use Rattle.card.specs.declared.record.Place.TheVariants.{Symbol}
 use Rattle.card.specs.declared.record.SymbolRecord.{SymbolRecord}
-use Rattle.card.proofs.Finding.{found_from_distinct, name_is_found_exactly}
+use Rattle.card.proofs.Finding.{found_from_distinct}
 use Rattle.card.proofs.Naming.{lettered}
-use Rattle.reading.specs.Scanning.{Grammar, at_start, in_name, behind, Scan, whole, scan, arity_at, variable_at, scan_variable, variable_letter}
-use Rattle.reading.specs.Sources.{first, at_letter, next_is}
-use Rattle.reading.specs.Written.{written, written_children, written_rest, nesting, nesting_children, nesting_rest, May, Allowed, TextOf, ProperSymbols}
+use Rattle.reading.specs.Scanning.{Grammar, at_start, behind, scan, arity_at, variable_at, scan_variable, variable_letter}
+use Rattle.reading.specs.Sources.{at_letter, next_is}
+use Rattle.reading.specs.Written.{written, written_children, written_rest, nesting, nesting_children, nesting_rest, May, ProperSymbols}
 use Rattle.reading.proofs.Automaton.{start_takes, start_variable, judged, name_over, judged_constant, judged_open, behind_comma, behind_close}
 
 -- A CARD'S SYMBOLS
@@ -128,8 +127,8 @@ module _ (G : Grammar) (proper : ProperSymbols G.symbols) where
         let acc₂ = acc₁ ++ map stored (theory.places t) in
         let n₂ = length-append acc₁ (map stored (theory.places t)) in
         let n₃ = length-map (theory.places t) stored in
-        let l = le_max_left (nesting t) (nesting_rest ts) in
-        let r = le_max_right (nesting t) (nesting_rest ts) in
+        let l = le-max_left (nesting t) (nesting_rest ts) in
+        let r = le-max_right (nesting t) (nesting_rest ts) in
         ap (scan G (at_start K) acc) shape
         ∙ (name_read f q.0 K acc (40 ∷ inner) (omega arith) refl
         ∙ (judged_open G K acc f (40 ∷ inner) (countᵗ ts) q.1 refl (omega arith)
@@ -147,8 +146,8 @@ module _ (G : Grammar) (proper : ProperSymbols G.symbols) where
         let acc₁ = acc ++ map stored (theory.places t) in
         let n₁ = length-append acc (map stored (theory.places t)) in
         let n₂ = length-map (theory.places t) stored in
-        let l = le_max_left (nesting t) (nesting_rest ts) in
-        let r = le_max_right (nesting t) (nesting_rest ts) in
+        let l = le-max_left (nesting t) (nesting_rest ts) in
+        let r = le-max_right (nesting t) (nesting_rest ts) in
         ap (λ x. scan G (behind (suc (countᵗ ts) ∷ K)) acc (44 ∷ x)) (append_assoc (written ss t) (written_rest ss ts) rest)
         ∙ (behind_comma G K acc (44 ∷ inner) (countᵗ ts) refl
         ∙ (term_read t on.0 (λ v h. may v (or_left (occurs v t) (occurs_in v ts) h)) (countᵗ ts ∷ K) acc (written_rest ss ts ++ rest) (omega arith) (omega arith) (ends_rest ss ts rest)

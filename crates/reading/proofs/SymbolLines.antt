@@ -1,5 +1,5 @@
 -- A symbol line, from its name to its digit. Assumes nothing.
-use Rattle.std.proofs.Common.{◌≡◌, ℕ, zero, suc, ◌+◌, ◌<◌, ◌≤◌, Bool, true, false, eqb, leb, ◌⊎◌, List, [], ◌∷◌, ◌++◌, length, get_or, drop, is_some, Some, None, Option, sym, refl, ap, ◌∙◌, subst, ap₂, inl, inr, ⊎_elim, append_assoc, append-nil, arith, length-append}
+use Rattle.std.proofs.Common.{◌≡◌, ℕ, ◌+◌, ◌<◌, ◌≤◌, true, false, leb, ◌⊎◌, List, [], ◌∷◌, ◌++◌, length, get_or, drop, is_some, Some, None, Option, sym, refl, ap, ◌∙◌, inl, inr, append_assoc, append-nil, arith, length-append}
 use Rattle.std.specs.List.{AllByRecursion as All}
 use Rattle.std.proofs.lemmas.Bool.{lt-leb, le-leb, leb-true, eqb-true, and_parts, true≢false}
 use Rattle.card.specs.Bytes.{letter, filled}
@@ -7,8 +7,8 @@ use Rattle.card.specs.Records.{find_from}
 use Rattle.card.specs.declared.record.SymbolRecord.{SymbolRecord}
 use Rattle.reading.specs.declared.fault.Fault.TheVariants.{NameTooLong}
 use Rattle.reading.specs.declared.fault.Fault.TheVariants as fault
-use Rattle.reading.specs.Sources.{at_letter, next_is, unexpected, Taken, NameTaken, NameGoesOn}
-use Rattle.reading.specs.Lines.{Line, taken, broken, symbol_digit, symbol_new, symbol_slash, symbol_name, symbol_line}
+use Rattle.reading.specs.Sources.{at_letter, next_is, unexpected, NameTaken, NameGoesOn}
+use Rattle.reading.specs.Lines.{broken, symbol_digit, symbol_new, symbol_slash, symbol_name, symbol_line}
 
 module _ (ss : List SymbolRecord) where
   pub name_takes : (w v rest : List ℕ) → All (λ b. letter b ≡ true) v → length w + length v ≤ 12 → symbol_name ss w (v ++ rest) ≡ symbol_name ss (w ++ v) rest

@@ -2,7 +2,7 @@
 use Rattle.std.specs.Prelude.{◌≡◌, ℕ, zero, suc, ◌<◌, ◌≤◌, List, [], ◌∷◌, ◌++◌, length, take, drop}
 use Rattle.card.specs.declared.record.Place.{Place}
 use Rattle.reading.specs.declared.fault.Fault.{Fault}
-use Rattle.reading.specs.Scanning.{Grammar, Mode, at_start, behind, Scan, stuck, scan}
+use Rattle.reading.specs.Scanning.{Grammar, Mode, at_start, behind, stuck, scan}
 
 -- where the automaton stands behind the head of a term with this many children
 abbrev pub behind_head : List ℕ → ℕ → Mode

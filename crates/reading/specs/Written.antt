@@ -7,7 +7,7 @@ use Rattle.rewriting.specs.Places.{places}
 use Rattle.card.specs.Records.{arities, name_of, stored, WellFormedSymbol, DistinctNames}
 use Rattle.card.specs.declared.record.Place.{Place}
 use Rattle.card.specs.declared.record.SymbolRecord.{SymbolRecord}
-use Rattle.reading.specs.Scanning.{Grammar, at_start, Scan, whole, scan}
+use Rattle.reading.specs.Scanning.{Grammar, at_start, whole, scan}
 
 -- a variable is its letter; a constant is its name; any other term is its symbol's name and, in brackets, its children with
 -- commas between them

@@ -39,7 +39,7 @@ pub enum Fault {
 }
 
 impl From<Fault> for Refusal {
-    ghost from_gives = { λ f r. r ≡ refusal-of f };
+    ghost from_gives = { λ f r. r ≡ refusal_of f };
 
     fn from(f: Fault) -> Refusal {
         match f {

@@ -10,6 +10,7 @@
 // form of a term inside the limits, and no two terms share a text. Cleaning, cutting into lines and tables are left to others.
 
 #![tactic(auto)]
+
 pub mod fault;
 pub mod grammar;
 pub mod laws;

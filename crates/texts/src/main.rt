@@ -4,6 +4,7 @@
 // of the last card text, which is the empty card if that text was refused.
 
 #![tactic(auto)]
+
 use card::record::{Card, Place, RuleRecord, SymbolRecord};
 use cardreader::reader::read_card;
 use reading::recipe::read_recipe;

@@ -1,4 +1,4 @@
-use Rattle.std.proofs.Common.{◌≡◌, drop, sym, refl, ap, ◌∙◌}
+use Rattle.std.proofs.Common.{drop, refl, ap, ◌∙◌}
 use Rattle.cardreader.proofs.Takes.{rule_takes, rule_breaks}
 use Rattle.cardreader.proofs.lines.take_rule_line.Goals as goal
 

@@ -1,4 +1,4 @@
-use Rattle.std.proofs.Common.{◌≡◌, drop, sym, refl, ap, ◌∙◌}
+use Rattle.std.proofs.Common.{drop, refl, ap, ◌∙◌}
 use Rattle.cardreader.proofs.Takes.{symbol_takes, symbol_breaks}
 use Rattle.cardreader.proofs.lines.take_symbol_line.Goals as goal
 

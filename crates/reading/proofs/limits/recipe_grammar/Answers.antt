@@ -1,4 +1,4 @@
-use Rattle.std.proofs.Common.{◌≡◌, ◌-◌, length, take, ap, ◌∙◌, arith}
+use Rattle.std.proofs.Common.{◌≡◌, ◌-◌, take, ap, ◌∙◌, arith}
 use Rattle.reading.specs.Recipes.{recipe_grammar}
 use Rattle.reading.proofs.RuleLines.{take_at_most}
 use Rattle.reading.proofs.limits.recipe_grammar.Goals as goal
