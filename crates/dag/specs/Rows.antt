@@ -1,5 +1,5 @@
 -- The rows of a node table: their children, and which rows are in order. Assumes nothing.
-use Rattle.std.specs.Prelude.{◌≡◌, ℕ, ◌<◌, ◌≤◌, List, [], ◌∷◌, take, drop, slice_index}
+use Rattle.std.specs.Prelude.{◌≡◌, ℕ, ◌==◌, ◌<◌, ◌≤◌, Bool, ◌&&◌, List, [], ◌∷◌, take, drop, slice_index}
 use Rattle.dag.specs.declared.row.Row.{Row}
 
 -- the row that is all zero; reads past the end of a table give it
@@ -24,3 +24,8 @@ Shaped r = (r.arity ≤ 4) × UnusedZero r
 -- each child is a record below n
 abbrev pub ChildrenBelow : ℕ → Row → Type 0
 ChildrenBelow n r = (j : ℕ) → j < r.arity → slice_index (child_places r) j < n
+
+-- two rows field by field, as a test
+abbrev pub same_fields : Row → Row → Bool
+same_fields r s =
+    r.symbol == s.symbol && r.arity == s.arity && r.first == s.first && r.second == s.second && r.third == s.third && r.fourth == s.fourth

@@ -1,5 +1,5 @@
 -- The trees that the rows of a node table stand for, and which tables are in order. Assumes nothing.
-use Rattle.std.specs.Prelude.{◌≡◌, ℕ, ◌<◌, ◌≤◌, List, [], ◌∷◌, ◌++◌, map, length, take, ◌≢◌, slice_index_or}
+use Rattle.std.specs.Prelude.{ℕ, ◌<◌, ◌≤◌, List, [], ◌∷◌, ◌++◌, map, length, take, ◌≢◌, slice_index_or}
 use Rattle.rewriting.specs.Terms.{Tree, node, Trees, nil, cons}
 use Rattle.dag.specs.declared.row.Row.{Row}
 use Rattle.dag.specs.Rows.{blank, children_of, Shaped, ChildrenBelow}

@@ -11,6 +11,7 @@
 // that trees are trees of a card, who the roots are, and what is printed is left to others.
 
 #![tactic(auto)]
+
 pub mod build;
 pub mod compact;
 pub mod laws;

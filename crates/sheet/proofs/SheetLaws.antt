@@ -1,16 +1,15 @@
 -- Two trees of a card have the same sheet exactly if they are equal. Assumes nothing.
-use Rattle.std.proofs.Common.{◌≡◌, ℕ, zero, suc, ◌^◌, ◌<◌, ◌≤◌, Bool, true, false, ◌↔◌, List, [], ◌∷◌, map, length, get_or, Some, sym, refl, ap, subst, arith}
-use mathlib.Core.List.{Memᴰ}
+use Rattle.std.proofs.Common.{◌≡◌, ℕ, zero, suc, ◌^◌, ◌<◌, ◌≤◌, Bool, true, false, List, [], ◌∷◌, length, get_or, Some, sym, ap, subst, arith}
 use Rattle.std.specs.List.{AllByRecursion as All}
 use Rattle.std.proofs.ByRecursion.{All-get_or, All-from_get_or, All-map}
 use Rattle.std.proofs.lemmas.List.{length-map}
-use Rattle.rewriting.specs.Terms.{Tree, node, Trees, nil, cons, symbol, children, to_list, same}
+use Rattle.rewriting.specs.Terms.{Tree, node, Trees, symbol, children, to_list, same}
 use Rattle.rewriting.specs.Cards.{Signature, OnSignature, AllOnSignature}
-use Rattle.rewriting.specs.Subterms.{Subterm, self, below, SubtermIn, in_first, in_rest, Row, row, place_of, subterms, sheet}
+use Rattle.rewriting.specs.Subterms.{Subterm, self, below, SubtermIn, in_first, in_rest, row, place_of, subterms, sheet}
 use Rattle.rewriting.proofs.Members.{place_mem}
 use Rattle.rewriting.proofs.Walking.{subterms_list}
 use Rattle.rewriting.proofs.Sheets.{equal_sheets}
-use Rattle.card.specs.Records.{arities, name_of, blank_symbol, WellFormedSymbol, DistinctNames}
+use Rattle.card.specs.Records.{arities, name_of, blank_symbol, WellFormedSymbol}
 use Rattle.card.specs.declared.record.SymbolRecord.{SymbolRecord}
 use Rattle.card.proofs.Naming.{lettered, names_apart}
 use Rattle.sheet.specs.SheetText.{sheet_text, before_last, SameSheetSameTree}

@@ -8,6 +8,7 @@
 // Law: two trees of a card have the same sheet exactly if they are equal.
 
 #![tactic(auto)]
+
 pub mod laws;
 pub mod line;
 pub mod text;

@@ -1,25 +1,24 @@
 -- Joining: the tree of a symbol over the sources, and every outcome. Assumes nothing.
-use Rattle.std.proofs.Common.{◌≡◌, ℕ, suc, ◌<◌, ◌≤◌, Bool, true, false, ◌&&◌, eqb, List, [], ◌∷◌, ◌++◌, map, length, get_or, is_some, Some, None, Ok, Err, Option, Result, unwrap_or, sym, refl, ap, ◌∙◌, subst, ap₂, ⊎_elim, append-nil, arith}
+use Rattle.std.proofs.Common.{◌≡◌, ℕ, suc, ◌<◌, ◌≤◌, true, false, ◌&&◌, List, [], ◌∷◌, ◌++◌, map, length, get_or, is_some, Some, None, Err, Option, unwrap_or, sym, refl, ap, ◌∙◌, subst, ap₂, ⊎_elim, append-nil, arith}
 use mathlib.Core.List.{Memᴰ}
 use Rattle.std.proofs.lemmas.Bool.{and_parts, eq-eqb, ltb-true, ne_eqb, true≢false}
 use Rattle.std.proofs.lemmas.List.{length-map}
-use Rattle.rewriting.specs.Terms.{Tree, node, Trees, nil, cons, count}
+use Rattle.rewriting.specs.Terms.{Tree, node, Trees, cons, count}
 use Rattle.rewriting.specs.Cards.{Signature, OnSignature, AllOnSignature}
-use Rattle.rewriting.specs.Subterms.{add, self, Subterm, walk}
+use Rattle.rewriting.specs.Subterms.{self, walk}
 use Rattle.rewriting.proofs.Members.{add_cases, add_keeps, fewer_members}
 use Rattle.rewriting.proofs.Walking.{grown_distinct, walk_grown, walk_has, walk_keeps, walk_mem}
 use Rattle.card.specs.Records.{arities}
 use Rattle.card.specs.declared.record.SymbolRecord.{SymbolRecord}
-use Rattle.card.specs.declared.refusal.Refusal.{Refusal}
-use Rattle.card.specs.declared.refusal.Refusal.TheVariants.{EmptyTin, UnknownName, WrongChildren}
+use Rattle.card.specs.declared.refusal.Refusal.TheVariants.{WrongChildren}
 use Rattle.dag.specs.declared.table.Table.{Table}
 use Rattle.dag.specs.Roots.{Compact, held, held_trees}
-use Rattle.dag.specs.Tables.{capacity, Full, Holds, Interned, trees}
+use Rattle.dag.specs.Tables.{capacity, Full, Interned, trees}
 use Rattle.dag.specs.Trees.{from_list, tree_at}
 use Rattle.dag.proofs.Adding.{one_missing, subterm_there}
 use Rattle.dag.proofs.Invariant.{children_there, distinct_trees, grown_trees, one_tree_each, record_mem}
 use Rattle.store.specs.declared.tins.Tins.{Tins}
-use Rattle.store.specs.Holding.{tin_trees, room}
+use Rattle.store.specs.Holding.{tin_trees}
 use Rattle.store.specs.OnCard.{takes, tin_on}
 use Rattle.store.specs.Results.{all_tins, Held, is_tin, join_over, join_result, joined, placed, source_trees, taken_with}
 use Rattle.store.specs.Sources.{all_filled, source_records}

@@ -1,5 +1,5 @@
 -- The symbol that bytes name. Assumes nothing.
-use Rattle.std.proofs.Common.{◌≡◌, ℕ, suc, ◌+◌, ◌<◌, Bool, true, false, List, [], ◌∷◌, length, get_or, drop, Some, sym, refl, ap, ◌∙◌, add-one}
+use Rattle.std.proofs.Common.{◌≡◌, ℕ, ◌+◌, ◌<◌, true, false, List, length, get_or, drop, Some, sym, ap, ◌∙◌, add-one}
 use Rattle.std.proofs.lemmas.List.{at_drop_more}
 use Rattle.card.specs.Bytes.{letters_of, same_bytes}
 use Rattle.card.specs.declared.record.SymbolRecord.{SymbolRecord}

@@ -1,5 +1,5 @@
 -- The test for trees of a signature tells them. Assumes nothing.
-use Rattle.std.proofs.Common.{◌≡◌, ℕ, Bool, true, false, ◌&&◌, eqb, Some, None, Decides, Option, sym, refl, ap, ◌∙◌, arith}
+use Rattle.std.proofs.Common.{◌≡◌, ℕ, true, Some, None, Option, sym, refl, ap, arith}
 use Rattle.std.proofs.lemmas.Bool.{and_from, and_parts, eq-eqb, eqb-true, true≢false}
 use Rattle.rewriting.specs.Terms.{Tree, node, Trees, nil, cons, count}
 use Rattle.rewriting.specs.Cards.{Signature, OnSignature, AllOnSignature}

@@ -1,12 +1,12 @@
 -- The results of calls by their cases. Assumes nothing.
-use Rattle.std.proofs.Common.{◌≡◌, ℕ, ◌<◌, ◌≤◌, Bool, true, false, ltb, List, [], length, get_or, take, set, Some, None, Ok, Err, Result, sym, refl, ap, ◌∙◌, subst, arith}
+use Rattle.std.proofs.Common.{◌≡◌, ℕ, ◌<◌, ◌≤◌, true, false, List, length, get_or, take, set, Some, None, Ok, Err, Result, sym, ap, ◌∙◌}
 use Rattle.std.proofs.lemmas.List.{take_all}
 use Rattle.std.proofs.lemmas.Bool.{lt-ltb, le-ltb}
 use Rattle.rewriting.specs.Terms.{Tree}
 use Rattle.card.specs.declared.record.Place.{Place}
 use Rattle.card.specs.declared.record.SymbolRecord.{SymbolRecord}
 use Rattle.card.specs.declared.refusal.Refusal.{Refusal}
-use Rattle.card.specs.declared.refusal.Refusal.TheVariants.{NoSuchTin, EmptyTin}
+use Rattle.card.specs.declared.refusal.Refusal.TheVariants.{EmptyTin}
 use Rattle.reading.specs.Recipes.{recipe}
 use Rattle.store.specs.Results.{Held, is_tin, clear_result, copied, copy_result, put_read, put_result}
 

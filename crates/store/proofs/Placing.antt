@@ -1,12 +1,12 @@
 -- What the tins hold after one of them got another tree. Assumes nothing.
-use Rattle.std.proofs.Common.{◌≡◌, ℕ, zero, suc, ◌<◌, ◌≤◌, Bool, true, ltb, ◌⊎◌, List, [], ◌∷◌, ◌++◌, map, length, get_or, set, Some, None, Option, sym, refl, ap, ◌∙◌, subst, ap₂, inl, inr, ⊎_elim, arith, length-set}
+use Rattle.std.proofs.Common.{◌≡◌, ℕ, suc, ◌<◌, true, List, [], ◌∷◌, ◌++◌, length, get_or, set, Some, None, Option, sym, refl, ap, ◌∙◌, subst, ap₂, ⊎_elim, arith, length-set}
 use lib.ListN.{get_or-append}
 use Rattle.std.proofs.lemmas.List.{get_or-set_same, get_or-set_other, map-set}
 use Rattle.std.proofs.lemmas.Bool.{cases_eq, ltb-true}
 use Rattle.rewriting.specs.Terms.{Tree}
 use Rattle.rewriting.specs.Cards.{Signature}
 use Rattle.dag.specs.Roots.{Compacted, held, held_trees, in_use, RootsInUse}
-use Rattle.dag.specs.Trees.{tree_at, blank_tree}
+use Rattle.dag.specs.Trees.{blank_tree}
 use Rattle.store.specs.OnCard.{tin_on}
 
 -- records in use keep their trees where records are added

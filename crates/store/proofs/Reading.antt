@@ -1,7 +1,7 @@
 -- A recipe that was read, as what the node table builds. Assumes nothing.
-use Rattle.std.proofs.Common.{◌≡◌, ℕ, ◌≤◌, true, List, [], map, length, Ok, sym, refl, ap, ◌∙◌, subst, arith}
+use Rattle.std.proofs.Common.{◌≡◌, ℕ, ◌≤◌, true, List, [], length, Ok, sym, ap, ◌∙◌, subst, arith}
 use Rattle.std.proofs.lemmas.List.{length-map}
-use Rattle.rewriting.specs.Terms.{occurs, Substitution, apply, Tree, Term}
+use Rattle.rewriting.specs.Terms.{occurs, Tree, Term}
 use Rattle.rewriting.specs.Cards.{OnSignature}
 use Rattle.rewriting.specs.Places.{places}
 use Rattle.rewriting.proofs.Equality.{apply_agrees}
@@ -12,7 +12,6 @@ use Rattle.card.specs.declared.record.SymbolRecord.{SymbolRecord}
 use Rattle.reading.specs.Recipes.{recipe}
 use Rattle.reading.proofs.Acceptance.{recipe_told}
 use Rattle.dag.specs.Places.{binding, Spells, spelled_tree}
-use Rattle.dag.specs.Trees.{tree_at}
 use Rattle.dag.proofs.Spelling.{one_term_spelled}
 use Rattle.store.specs.Results.{recipe_tree}
 

@@ -1,8 +1,6 @@
 -- The trees in the tins after one tin was set. Assumes nothing.
-use Rattle.std.proofs.Common.{◌≡◌, ℕ, ◌<◌, true, List, [], ◌++◌, length, get_or, set, Some, None, Option, sym, refl, ap, ◌∙◌, subst, append-nil, arith}
+use Rattle.std.proofs.Common.{◌≡◌, ℕ, ◌<◌, true, [], length, get_or, set, None, Option, sym, ap, subst, append-nil, arith}
 use Rattle.std.proofs.lemmas.List.{get_or-map, length-map}
-use Rattle.rewriting.specs.Terms.{Tree}
-use Rattle.dag.specs.declared.table.Table.{Table}
 use Rattle.dag.specs.Roots.{Compacted, held, in_use, RootsInUse}
 use Rattle.dag.specs.Tables.{trees}
 use Rattle.dag.proofs.Invariant.{one_tree_each}

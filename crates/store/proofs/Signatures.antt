@@ -1,5 +1,5 @@
 -- The signature of a card's symbols. Assumes nothing.
-use Rattle.std.proofs.Common.{◌≡◌, ℕ, zero, suc, ◌<◌, ◌≤◌, List, [], ◌∷◌, length, get_or, Some, None, sym, refl, ap, ◌∙◌, subst, arith}
+use Rattle.std.proofs.Common.{◌≡◌, ℕ, zero, suc, ◌<◌, ◌≤◌, List, [], ◌∷◌, length, get_or, Some, None, sym, refl, ◌∙◌, subst, arith}
 use Rattle.card.specs.Records.{arities, blank_symbol}
 use Rattle.card.specs.declared.record.SymbolRecord.{SymbolRecord}
 use Rattle.dag.specs.Places.{FewChildren}

@@ -1,7 +1,5 @@
 -- The laws of every store. Assumes nothing.
-use Rattle.std.proofs.Common.{◌≡◌, ℕ, zero, suc, ◌<◌, ◌≤◌, Bool, true, false, ◌&&◌, leb, ◌↔◌, List, [], ◌∷◌, length, get_or, Some, None, Ok, Err, Option, Result, sym, refl, ap, ◌∙◌, subst, ap₂, arith}
-use mathlib.Core.List.{Memᴰ}
-use Rattle.std.specs.List.{AllByRecursion as All}
+use Rattle.std.proofs.Common.{◌≡◌, ℕ, zero, suc, ◌≤◌, Bool, true, false, leb, List, [], ◌∷◌, length, get_or, Some, None, Ok, Err, Option, Result, sym, refl, ap, ◌∙◌, subst, ap₂, arith}
 use Rattle.std.proofs.lemmas.Bool.{and_from, ltb-true}
 use Rattle.rewriting.specs.Terms.{Tree, same}
 use Rattle.rewriting.specs.Cards.{OnSignature}
@@ -9,7 +7,7 @@ use Rattle.rewriting.specs.Subterms.{Subterm, SubtermIn, in_first, in_rest, subt
 use Rattle.rewriting.proofs.Equality.{same_eq, same_refl}
 use Rattle.rewriting.proofs.Members.{fewer_members}
 use Rattle.rewriting.proofs.Walking.{grown_distinct, subterms_grown, subterms_list}
-use Rattle.card.specs.Records.{arities, DistinctNames, name_of, WellFormedSymbol}
+use Rattle.card.specs.Records.{arities, name_of}
 use Rattle.card.specs.declared.record.SymbolRecord.{SymbolRecord}
 use Rattle.card.specs.declared.refusal.Refusal.{Refusal}
 use Rattle.card.specs.declared.refusal.Refusal.TheVariants.{BufferTooShort, NoSuchTin}

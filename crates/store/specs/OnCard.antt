@@ -1,5 +1,5 @@
 -- A test that a tree is one of a signature's. Assumes nothing.
-use Rattle.std.specs.Prelude.{◌≡◌, ℕ, Bool, true, false, ◌&&◌, Some, None, Decides, Option, ◌==◌}
+use Rattle.std.specs.Prelude.{ℕ, Bool, true, false, ◌&&◌, Some, None, Decides, Option, ◌==◌}
 use Rattle.rewriting.specs.Terms.{Tree, node, Trees, nil, cons, count}
 use Rattle.rewriting.specs.Cards.{Signature, OnSignature}
 

@@ -1,5 +1,5 @@
 -- The sources of a join, by their roots. Assumes nothing.
-use Rattle.std.specs.Prelude.{ℕ, Bool, true, false, ◌&&◌, List, [], ◌∷◌, map, is_some, Some, None, Option, slice_index_or}
+use Rattle.std.specs.Prelude.{ℕ, Bool, true, ◌&&◌, List, [], ◌∷◌, map, is_some, None, Option, slice_index_or}
 use Rattle.std.specs.Option.{unwrap_or}
 
 -- whether all of these tins hold a tree

@@ -9,6 +9,7 @@
 // Nothing here allocates. Which records hold which subterms is left open.
 
 #![tactic(auto)]
+
 pub mod laws;
 pub mod memory;
 pub mod naming;

@@ -8,23 +8,23 @@ use Rattle.dag.proofs.build.push_symbol.Goals as goal
 
 pub intern-requires : goal.intern-requires
 intern-requires c =
-    let n = c.in-ok-node.node in
+    let n = c.in_ok-node.node in
     let ks = drop c.args.top c.args.stack.now in
     let count = c.args.table.now.count in
     children_each count n.row n.few
-    (subst (All (λ k. k < count)) (sym c.in-ok-node.ensures.1) (All-take (λ k. k < count) ((c.args.top + c.args.arity) - c.args.top) ks c.requires.records))
+    (subst (All (λ k. k < count)) (sym c.in_ok-node.ensures.1) (All-take (λ k. k < count) ((c.args.top + c.args.arity) - c.args.top) ks c.requires.records))
 
-pub returns-in-default : goal.returns-in-default
-returns-in-default c =
+pub returns-in_default : goal.returns-in_default
+returns-in_default c =
     let before = c.args.table.now in
-    let h = c.in-default.ensures in
-    let n = c.in-ok-node.ensures in
+    let h = c.in_default.ensures in
+    let n = c.in_ok-node.ensures in
     record {
       capacity = h.capacity;
       records = h.records;
       cases =
           subst (Full before c.intern.new.self)
-          (over_top before (drop c.args.top c.args.stack.now) c.in-ok-node.node c.args.symbol c.args.top c.args.arity n.0 n.1) h.cases;
+          (over_top before (drop c.args.top c.args.stack.now) c.in_ok-node.node c.args.symbol c.args.top c.args.arity n.0 n.1) h.cases;
     }
 
 pub returns : goal.returns
@@ -32,12 +32,12 @@ returns c =
     let before = c.args.table.now in
     let after = c.intern.new.self in
     let h = c.in-Some.ensures in
-    let n = c.in-ok-node.ensures in
-    let e = over_top before (drop c.args.top c.args.stack.now) c.in-ok-node.node c.args.symbol c.args.top c.args.arity n.0 n.1 in
+    let n = c.in_ok-node.ensures in
+    let e = over_top before (drop c.args.top c.args.stack.now) c.in_ok-node.node c.args.symbol c.args.top c.args.arity n.0 n.1 in
     record {
       capacity = h.capacity;
       records = h.records;
       cases =
-          pushed before after _ c.args.stack.now c.replace-top.new.stack c.args.top c.args.arity c.replace-top.result c.in-Some.at c.requires.records
-          (subst (λ t. Interned before after t c.in-Some.at) e h.cases) c.replace-top.ensures.top c.replace-top.ensures.stack;
+          pushed before after _ c.args.stack.now c.replace_top.new.stack c.args.top c.args.arity c.replace_top.result c.in-Some.at c.requires.records
+          (subst (λ t. Interned before after t c.in-Some.at) e h.cases) c.replace_top.ensures.top c.replace_top.ensures.stack;
     }

@@ -6,8 +6,8 @@ use Rattle.dag.proofs.Invariant.{distinct_trees, one_tree_each}
 use Rattle.dag.proofs.Visiting.{walk_starts}
 use Rattle.dag.proofs.compact.compact.Goals as goal
 
-pub mark-roots-count-requires : goal.mark-roots-count-requires
-mark-roots-count-requires c =
+pub mark_roots-count-requires : goal.mark_roots-count-requires
+mark_roots-count-requires c =
     let t = c.args.table.now in
     record {
       roots = c.requires.roots;
@@ -18,8 +18,8 @@ pub slide-requires : goal.slide-requires
 slide-requires c =
     let t = c.args.table.now in
     record {
-      sizes = (omega (arith, c.mark-roots-count.auto.marks, c.requires.sizes.0), c.requires.sizes.2);
-      marked = children_marked t _ _ _ c.mark-roots-count.ensures.walked;
+      sizes = (omega (arith, c.mark_roots-count.auto.marks, c.requires.sizes.0), c.requires.sizes.2);
+      marked = children_marked t _ _ _ c.mark_roots-count.ensures.walked;
     }
 
 pub returns : goal.returns
@@ -30,8 +30,8 @@ returns c =
       clear = c.drop-guard.ensures;
       capacity = c.slide.ensures.capacity;
       compacted =
-          compacted ts c.args.roots.now c.mark-roots-count.new.marks c.mark-roots-count.new.order c.mark-roots-count.result c.mark-roots-count.ensures.walked
-          c.mark-roots-count.ensures.listed (subst (λ n. RootsInUse n c.args.roots.now) (sym (one_tree_each t)) c.requires.roots) (trees c.slide.new.table) c.slide.new.numbers
-          (subst (λ n. Slid ts c.mark-roots-count.new.marks n (trees c.slide.new.table) c.slide.new.numbers) (sym (one_tree_each t)) c.slide.ensures.slid)
-          (distinct_trees c.slide.new.table) c.renumber-roots.new.roots c.renumber-roots.auto.roots c.renumber-roots.ensures;
+          compacted ts c.args.roots.now c.mark_roots-count.new.marks c.mark_roots-count.new.order c.mark_roots-count.result c.mark_roots-count.ensures.walked
+          c.mark_roots-count.ensures.listed (subst (λ n. RootsInUse n c.args.roots.now) (sym (one_tree_each t)) c.requires.roots) (trees c.slide.new.table) c.slide.new.numbers
+          (subst (λ n. Slid ts c.mark_roots-count.new.marks n (trees c.slide.new.table) c.slide.new.numbers) (sym (one_tree_each t)) c.slide.ensures.slid)
+          (distinct_trees c.slide.new.table) c.renumber_roots.new.roots c.renumber_roots.auto.roots c.renumber_roots.ensures;
     }

@@ -3,7 +3,7 @@ use Rattle.dag.specs.Tables.{trees}
 use Rattle.dag.specs.Walks.{listed}
 use Rattle.dag.proofs.Rooting.{root_walked, roots_walked}
 use Rattle.dag.proofs.compact.mark_roots.Goals as goal
-use Rattle.dag.proofs.compact.mark_roots.Goals.{in-Some, in-default}
+use Rattle.dag.proofs.compact.mark_roots.Goals.{in-Some, in_default}
 
 pub loop-i-preserved : goal.loop-i-preserved
 loop-i-preserved c =
@@ -14,8 +14,8 @@ loop-i-preserved c =
         | in-Some w ↦
             root_walked ts c.args.roots.now c.loop-i.i _ _ _ (Some w.in-Some.at) c.loop-i-test.true w.in-Some.is c.loop-i.invariant.1
             (ap (λ o. listed ts o n) w.order-is ∙ (ap (listed ts w.visit-n.new.order) w.n-is ∙ w.visit-n.ensures.listed))
-        | in-default w ↦
-            root_walked ts c.args.roots.now c.loop-i.i _ _ _ None c.loop-i-test.true w.in-default.is c.loop-i.invariant.1
+        | in_default w ↦
+            root_walked ts c.args.roots.now c.loop-i.i _ _ _ None c.loop-i-test.true w.in_default.is c.loop-i.invariant.1
             (ap (λ o. listed ts o n) w.order-is ∙ ap (listed ts c.loop-i.order) w.n-is)
       ],
     )

@@ -15,14 +15,14 @@ renumbered-requires c =
     All-weaker (λ k. k < i) (λ k. k < length c.loop-i.numbers)
     (λ k h. omega (arith, c.loop-i.auto.numbers, c.requires.sizes.1, t.fits, c.count-old.ensures, c.loop-i-test.true)) _
     (sliding_children t _ _ (ap vec_items c.truncate.ensures.rows) c.count-old.ensures _ _ i c.loop-i.table _ c.loop-i.invariant c.loop-i-test.true
-    c.from-shaped-row-node.result.row (c.from-shaped-row-node.ensures ∙ c.row-at.ensures))
+    c.from_shaped_row-node.result.row (c.from_shaped_row-node.ensures ∙ c.row_at.ensures))
 
 pub append-requires : goal.append-requires
 append-requires c =
     let t = c.args.table.now in
     let s =
     sliding_node t _ _ (ap vec_items c.truncate.ensures.rows) c.count-old.ensures _ _ c.loop-i.i c.loop-i.table _ c.loop-i.invariant c.loop-i-test.true
-    c.from-shaped-row-node.result.row (c.from-shaped-row-node.ensures ∙ c.row-at.ensures) c.requires.marked c.if-marks-i-ne0.true c.renumbered.result
+    c.from_shaped_row-node.result.row (c.from_shaped_row-node.ensures ∙ c.row_at.ensures) c.requires.marked c.if-marks-i-ne0.true c.renumbered.result
     c.renumbered.ensures.symbol c.renumbered.ensures.children in
     record {
       room = omega (arith, c.loop-i.invariant.fewer, c.loop-i.invariant.full_is, ap vec_len c.truncate.ensures.rows, t.fits, c.count-old.ensures, c.loop-i-test.true);
@@ -42,7 +42,7 @@ loop-i-preserved c =
       | then-marks-i-ne0 w ↦
           let s =
           sliding_node t rows n (ap vec_items c.truncate.ensures.rows) c.count-old.ensures marks full i c.loop-i.table c.loop-i.numbers c.loop-i.invariant c.loop-i-test.true
-          w.from-shaped-row-node.result.row (w.from-shaped-row-node.ensures ∙ w.row-at.ensures) c.requires.marked w.if-marks-i-ne0.true w.renumbered.result
+          w.from_shaped_row-node.result.row (w.from_shaped_row-node.ensures ∙ w.row_at.ensures) c.requires.marked w.if-marks-i-ne0.true w.renumbered.result
           w.renumbered.ensures.symbol w.renumbered.ensures.children in
           let a = w.append.ensures in
           let k =

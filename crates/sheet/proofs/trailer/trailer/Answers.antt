@@ -9,27 +9,27 @@ top = 116 ∷ 111 ∷ 112 ∷ 32 ∷ []
 abbrev place : List ℕ
 place = 32 ∷ 97 ∷ 116 ∷ 32 ∷ []
 
-pub push-number-requires : goal.push-number-requires
-push-number-requires c =
+pub push_number-requires : goal.push_number-requires
+push_number-requires c =
     let e = ap length c.new-text.ensures in
-    let a = joined_length (bytes_of c.push-all.new.self) (bytes_of c.new-text.result) top c.push-all.ensures in
+    let a = joined_length (bytes_of c.push_all.new.self) (bytes_of c.new-text.result) top c.push_all.ensures in
     let r = five_digits c.args.root c.ranges.root.fits in
     omega arith
 
-pub push-all-requires-2 : goal.push-all-requires-2
-push-all-requires-2 c =
+pub push_all-requires-2 : goal.push_all-requires-2
+push_all-requires-2 c =
     let e = ap length c.new-text.ensures in
-    let a = joined_length (bytes_of c.push-all.new.self) (bytes_of c.new-text.result) top c.push-all.ensures in
-    let b = joined_length (bytes_of c.push-number.new.self) (bytes_of c.push-all.new.self) (decimal c.args.root) c.push-number.ensures in
+    let a = joined_length (bytes_of c.push_all.new.self) (bytes_of c.new-text.result) top c.push_all.ensures in
+    let b = joined_length (bytes_of c.push_number.new.self) (bytes_of c.push_all.new.self) (decimal c.args.root) c.push_number.ensures in
     let r = five_digits c.args.root c.ranges.root.fits in
     omega arith
 
-pub push-number-requires-2 : goal.push-number-requires-2
-push-number-requires-2 c =
+pub push_number-requires-2 : goal.push_number-requires-2
+push_number-requires-2 c =
     let e = ap length c.new-text.ensures in
-    let a = joined_length (bytes_of c.push-all.new.self) (bytes_of c.new-text.result) top c.push-all.ensures in
-    let b = joined_length (bytes_of c.push-number.new.self) (bytes_of c.push-all.new.self) (decimal c.args.root) c.push-number.ensures in
-    let d = joined_length (bytes_of c.push-all-2.new.self) (bytes_of c.push-number.new.self) place c.push-all-2.ensures in
+    let a = joined_length (bytes_of c.push_all.new.self) (bytes_of c.new-text.result) top c.push_all.ensures in
+    let b = joined_length (bytes_of c.push_number.new.self) (bytes_of c.push_all.new.self) (decimal c.args.root) c.push_number.ensures in
+    let d = joined_length (bytes_of c.push_all-2.new.self) (bytes_of c.push_number.new.self) place c.push_all-2.ensures in
     let r = five_digits c.args.root c.ranges.root.fits in
     let p = twenty_digits c.args.place c.ranges.place.fits in
     omega arith
@@ -37,10 +37,10 @@ push-number-requires-2 c =
 pub push-requires : goal.push-requires
 push-requires c =
     let e = ap length c.new-text.ensures in
-    let a = joined_length (bytes_of c.push-all.new.self) (bytes_of c.new-text.result) top c.push-all.ensures in
-    let b = joined_length (bytes_of c.push-number.new.self) (bytes_of c.push-all.new.self) (decimal c.args.root) c.push-number.ensures in
-    let d = joined_length (bytes_of c.push-all-2.new.self) (bytes_of c.push-number.new.self) place c.push-all-2.ensures in
-    let g = joined_length (bytes_of c.push-number-2.new.self) (bytes_of c.push-all-2.new.self) (decimal c.args.place) c.push-number-2.ensures in
+    let a = joined_length (bytes_of c.push_all.new.self) (bytes_of c.new-text.result) top c.push_all.ensures in
+    let b = joined_length (bytes_of c.push_number.new.self) (bytes_of c.push_all.new.self) (decimal c.args.root) c.push_number.ensures in
+    let d = joined_length (bytes_of c.push_all-2.new.self) (bytes_of c.push_number.new.self) place c.push_all-2.ensures in
+    let g = joined_length (bytes_of c.push_number-2.new.self) (bytes_of c.push_all-2.new.self) (decimal c.args.place) c.push_number-2.ensures in
     let r = five_digits c.args.root c.ranges.root.fits in
     let p = twenty_digits c.args.place c.ranges.place.fits in
     omega arith
@@ -54,6 +54,6 @@ returns c =
     let p = decimal c.args.place in
     c.push.ensures
     ∙ (ap (λ x. x ++ (10 ∷ []))
-    (c.push-number-2.ensures
-    ∙ ap (λ x. x ++ p) (c.push-all-2.ensures ∙ ap (λ x. x ++ place) (c.push-number.ensures ∙ ap (λ x. x ++ r) (c.push-all.ensures ∙ ap (λ x. x ++ top) c.new-text.ensures))))
+    (c.push_number-2.ensures
+    ∙ ap (λ x. x ++ p) (c.push_all-2.ensures ∙ ap (λ x. x ++ place) (c.push_number.ensures ∙ ap (λ x. x ++ r) (c.push_all.ensures ∙ ap (λ x. x ++ top) c.new-text.ensures))))
     ∙ regrouped top r place p (10 ∷ []))

@@ -4,14 +4,14 @@ use Rattle.dag.specs.Rows.{children_of}
 use Rattle.dag.proofs.Shapes.{length_renumber, row_over_children, row_over_shaped}
 use Rattle.dag.proofs.node.Node.renumbered.Goals as goal
 
-pub invariant-of-result : goal.invariant-of-result
-invariant-of-result c =
+pub invariant_of-result : goal.invariant_of-result
+invariant_of-result c =
     let r = c.args.self.row in
     let s =
-    row_over_shaped r.symbol r.arity (renumber c.args.numbers.now (children_of r)) c.renumbered-child.result
-    c.renumbered-child-2.result c.renumbered-child-3.result c.renumbered-child-4.result (length_renumber c.args.numbers.now r c.args.self.few) c.args.self.few
-    c.renumbered-child.ensures c.renumbered-child-2.ensures c.renumbered-child-3.ensures c.renumbered-child-4.ensures in
-    (s.0, (s.1, tt))
+    row_over_shaped r.symbol r.arity (renumber c.args.numbers.now (children_of r)) c.renumbered_child.result
+    c.renumbered_child-2.result c.renumbered_child-3.result c.renumbered_child-4.result (length_renumber c.args.numbers.now r c.args.self.few) c.args.self.few
+    c.renumbered_child.ensures c.renumbered_child-2.ensures c.renumbered_child-3.ensures c.renumbered_child-4.ensures in
+    record { few = s.0; unused = s.1 }
 
 pub returns : goal.returns
 returns c =
@@ -19,7 +19,7 @@ returns c =
     record {
       symbol = refl;
       children =
-          row_over_children r.symbol r.arity (renumber c.args.numbers.now (children_of r)) c.renumbered-child.result
-          c.renumbered-child-2.result c.renumbered-child-3.result c.renumbered-child-4.result (length_renumber c.args.numbers.now r c.args.self.few) c.args.self.few
-          c.renumbered-child.ensures c.renumbered-child-2.ensures c.renumbered-child-3.ensures c.renumbered-child-4.ensures;
+          row_over_children r.symbol r.arity (renumber c.args.numbers.now (children_of r)) c.renumbered_child.result
+          c.renumbered_child-2.result c.renumbered_child-3.result c.renumbered_child-4.result (length_renumber c.args.numbers.now r c.args.self.few) c.args.self.few
+          c.renumbered_child.ensures c.renumbered_child-2.ensures c.renumbered_child-3.ensures c.renumbered_child-4.ensures;
     }

@@ -5,16 +5,21 @@ use Rattle.dag.proofs.Invariant.{valid}
 use Rattle.dag.proofs.Records.{valid_more}
 use Rattle.dag.proofs.table.Table.append.Goals as goal
 
-pub invariant-of-self : goal.invariant-of-self
-invariant-of-self c =
+pub invariant_of-self : goal.invariant_of-self
+invariant_of-self c =
     let t = c.args.self.now in
     let n = c.args.node in
     let room : t.count < length (vec_items t.rows) = omega (arith, c.requires.room, t.rows.ok.0) in
-    let v = subst (λ r. Valid (set (vec_items t.rows) t.count r) (t.count + 1)) (sym c.to-row.ensures)
-    (valid_more (vec_items t.rows) t.count n.row (valid t) room (n.few, n.unused) c.requires.over c.requires.new) in (
-      omega (arith, c.requires.room),
-      (t.small, ((λ i h. (v.shaped i h).0), ((λ i h. (v.shaped i h).1), (v.children_below, (v.unequal, tt))))),
-    )
+    let v = subst (λ r. Valid (set (vec_items t.rows) t.count r) (t.count + 1)) (sym c.to_row.ensures)
+    (valid_more (vec_items t.rows) t.count n.row (valid t) room (n.few, n.unused) c.requires.over c.requires.new) in
+    record {
+      fits = omega (arith, c.requires.room);
+      small = t.small;
+      few = λ i h. (v.shaped i h).0;
+      unused = λ i h. (v.shaped i h).1;
+      below = v.children_below;
+      unequal = v.unequal;
+    }
 
 pub returns : goal.returns
 returns c =
@@ -24,7 +29,7 @@ returns c =
     record {
       at = refl;
       count = refl;
-      rows = ap (set rows t.count) c.to-row.ensures;
+      rows = ap (set rows t.count) c.to_row.ensures;
       capacity = refl;
-      trees = ap (λ r. table_trees (set rows t.count r) (t.count + 1)) c.to-row.ensures ∙ trees_set rows t.count c.args.node.row room;
+      trees = ap (λ r. table_trees (set rows t.count r) (t.count + 1)) c.to_row.ensures ∙ trees_set rows t.count c.args.node.row room;
     }

@@ -9,7 +9,7 @@ pub loop-i-preserved : goal.loop-i-preserved
 loop-i-preserved c =
     let t = c.args.self.now in
     below_more _ _ c.loop-i.invariant
-    (λ e. both_ways _ c.if-eq.false (c.eq.ensures.1 (node_told t c.node.result c.args.node c.node.ensures.over c.requires (sym c.node.ensures.same.1 ∙ e))))
+    (λ e. both_ways _ c.if-eq.false (c.eq.ensures.rows.1 (node_told t c.node.result c.args.node c.node.ensures.over c.requires (sym c.node.ensures.same.1 ∙ e))))
 
 pub returns : goal.returns
 returns c = λ m.

@@ -28,7 +28,7 @@ returns c =
       records = ap (take t.count) e.rows ∙ take-set (vec_items t.rows) t.count c.args.node.row;
       cases =
           record {
-            added = e.trees ∙ sym (add_new s (trees t) c.in-default.ensures);
+            added = e.trees ∙ sym (add_new s (trees t) c.in_default.ensures);
             holds = (
               omega (arith, e.at, e.count),
               ap (tree_at (trees c.append.new.self)) e.at

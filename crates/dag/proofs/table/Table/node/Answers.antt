@@ -10,7 +10,7 @@ pub returns : goal.returns
 returns c =
     let t = c.args.self.now in
     let i = c.args.at in
-    let e = c.from-shaped-row.ensures ∙ c.row-at.ensures in
+    let e = c.from_shaped_row.ensures ∙ c.row_at.ensures in
     record {
       below = subst (ChildrenBelow i) (sym e) (t.below i c.requires);
       over = subst (ChildrenBelow t.count) (sym e) (λ j h. omega (arith, c.requires, t.below i c.requires j h));

@@ -5,13 +5,18 @@ use Rattle.dag.proofs.Invariant.{one_tree_each, trees_take, valid}
 use Rattle.dag.proofs.Records.{shorter}
 use Rattle.dag.proofs.table.Table.truncate.Goals as goal
 
-pub invariant-of-self : goal.invariant-of-self
-invariant-of-self c =
+pub invariant_of-self : goal.invariant_of-self
+invariant_of-self c =
     let t = c.args.self.now in
-    let v = shorter (vec_items t.rows) t.count (valid t) c.args.count (omega (arith, c.if-count-self.true)) in (
-      omega (arith, v.fits, t.rows.ok.0),
-      (t.small, ((λ i h. (v.shaped i h).0), ((λ i h. (v.shaped i h).1), (v.children_below, (v.unequal, tt))))),
-    )
+    let v = shorter (vec_items t.rows) t.count (valid t) c.args.count (omega (arith, c.if-count-self.true)) in
+    record {
+      fits = omega (arith, v.fits, t.rows.ok.0);
+      small = t.small;
+      few = λ i h. (v.shaped i h).0;
+      unused = λ i h. (v.shaped i h).1;
+      below = v.children_below;
+      unequal = v.unequal;
+    }
 
 pub returns-then-count-self : goal.returns-then-count-self
 returns-then-count-self c =

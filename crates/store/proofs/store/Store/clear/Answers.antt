@@ -1,8 +1,5 @@
-use Rattle.std.proofs.Common.{◌≡◌, [], length, set, None, sym, refl, ◌∙◌, subst, append-nil}
+use Rattle.std.proofs.Common.{None, sym, refl, subst}
 use Rattle.card.specs.Records.{arities}
-use Rattle.dag.specs.Roots.{Compacted, RootsInUse}
-use Rattle.dag.specs.Tables.{trees}
-use Rattle.dag.proofs.Invariant.{one_tree_each}
 use Rattle.dag.proofs.Keeping.{compacted_compact}
 use Rattle.store.specs.Holding.{tin_trees}
 use Rattle.store.proofs.Placing.{AllOn, set_on}
@@ -10,19 +7,16 @@ use Rattle.store.proofs.Outcomes.{clear_done}
 use Rattle.store.proofs.Settled.{emptied}
 use Rattle.store.proofs.store.Store.clear.Goals as goal
 
-pub invariant-of-self : goal.invariant-of-self
-invariant-of-self c =
+pub invariant_of-self : goal.invariant_of-self
+invariant_of-self c =
     let before = c.args.self.now in
-    let e = emptied before.tins c.set.new.self c.args.tin c.set.ensures.compacted in (
-      before.many,
-      (
-        before.few,
-        (
-          compacted_compact _ _ _ _ c.set.ensures.compacted,
-          (subst (AllOn (arities before.symbols.now)) (sym e) (set_on (arities before.symbols.now) (tin_trees before.tins) c.args.tin None before.card refl), tt),
-        ),
-      ),
-    )
+    let e = emptied before.tins c.set.new.self c.args.tin c.set.ensures.compacted in
+    record {
+      many = before.many;
+      few = before.few;
+      compact = compacted_compact _ _ _ _ c.set.ensures.compacted;
+      card = subst (AllOn (arities before.symbols.now)) (sym e) (set_on (arities before.symbols.now) (tin_trees before.tins) c.args.tin None before.card refl);
+    }
 
 pub returns : goal.returns
 returns c =

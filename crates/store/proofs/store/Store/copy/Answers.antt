@@ -1,4 +1,4 @@
-use Rattle.std.proofs.Common.{◌≡◌, true, Some, None, sym, refl, ap, ◌∙◌, subst}
+use Rattle.std.proofs.Common.{◌≡◌, true, Some, sym, refl, ap, ◌∙◌, subst}
 use Rattle.card.specs.Records.{arities}
 use Rattle.dag.specs.Roots.{held}
 use Rattle.dag.specs.Tables.{trees}
@@ -25,14 +25,19 @@ returns-in-None c =
       cases = (copy_empty (tin_trees before.tins) c.args.target c.args.source c.if-target-ge16.false c.if-source-ge16.false e, record { same_roots = refl; same_trees = refl; same_records = refl });
     }
 
-pub invariant-of-self : goal.invariant-of-self
-invariant-of-self c =
+pub invariant_of-self : goal.invariant_of-self
+invariant_of-self c =
     let before = c.args.self.now in
     let e = set_alone before.tins c.set.new.self c.args.target (Some c.in-Some.at) c.set.ensures.compacted in
     let t = Some (tree_at (trees before.tins.table) c.in-Some.at) in
     let there = tin_held before.tins c.args.source c.if-source-ge16.false ∙ ap (held (trees before.tins.table)) (sym c.in-Some.ensures) in
     let on = subst (λ o. tin_on (arities before.symbols.now) o ≡ true) there (before.card c.args.source (tin_inside before.tins c.args.source c.if-source-ge16.false)) in
-    (before.many, (before.few, (compacted_compact _ _ _ _ c.set.ensures.compacted, (subst (AllOn (arities before.symbols.now)) (sym e) (set_on (arities before.symbols.now) (tin_trees before.tins) c.args.target t before.card on), tt))))
+    record {
+      many = before.many;
+      few = before.few;
+      compact = compacted_compact _ _ _ _ c.set.ensures.compacted;
+      card = subst (AllOn (arities before.symbols.now)) (sym e) (set_on (arities before.symbols.now) (tin_trees before.tins) c.args.target t before.card on);
+    }
 
 pub returns-in-Some : goal.returns-in-Some
 returns-in-Some c =

@@ -1,4 +1,4 @@
-use Rattle.std.proofs.Common.{◌≡◌, ◌<◌, ◌≤◌, true, [], length, set, Some, None, sym, refl, ap, ◌∙◌, subst, arith}
+use Rattle.std.proofs.Common.{◌<◌, ◌≤◌, [], length, Some, None, sym, refl, ap, ◌∙◌, subst, arith}
 use Rattle.rewriting.specs.Terms.{node}
 use Rattle.rewriting.specs.Subterms.{walk}
 use Rattle.card.specs.Records.{arities}
@@ -13,11 +13,11 @@ use Rattle.store.proofs.Placing.{AllOn, set_on}
 use Rattle.store.proofs.Signatures.{few_any}
 use Rattle.store.proofs.store.Store.join.Goals as goal
 
-pub returns-then-not-all-filled : goal.returns-then-not-all-filled
-returns-then-not-all-filled c =
+pub returns-then-not-all_filled : goal.returns-then-not-all_filled
+returns-then-not-all_filled c =
     let before = c.args.self.now in
-    let tins = sym c.if-not-all-tins.ensures in
-    let empty = sources_empty before.tins c.args.sources.now tins (sym c.if-not-all-filled.ensures) in
+    let tins = sym c.if-not-all_tins.ensures in
+    let empty = sources_empty before.tins c.args.sources.now tins (sym c.if-not-all_filled.ensures) in
     record {
       card = record { symbols = refl; rules = refl; room = refl };
       cases = (
@@ -26,18 +26,18 @@ returns-then-not-all-filled c =
       );
     }
 
-pub returns-in-default : goal.returns-in-default
-returns-in-default c =
+pub returns-in_default : goal.returns-in_default
+returns-in_default c =
     let before = c.args.self.now in
     let ss = before.symbols.now in
     let sources = c.args.sources.now in
-    let tins = sym c.if-not-all-tins.ensures in
-    let there = sources_there before.tins sources tins (sym c.if-not-all-filled.ensures) in
+    let tins = sym c.if-not-all_tins.ensures in
+    let there = sources_there before.tins sources tins (sym c.if-not-all_filled.ensures) in
     record {
       card = record { symbols = refl; rules = refl; room = refl };
       cases = (
         join_told ss (room before.tins) (tin_trees before.tins) c.args.target c.args.name.now sources c.if-target-ge16.false tins (Some (over before.tins sources)) there
-            ∙ ap (joined ss (room before.tins) (tin_trees before.tins) c.args.target (over before.tins sources)) (sym c.in-default.ensures.first),
+            ∙ ap (joined ss (room before.tins) (tin_trees before.tins) c.args.target (over before.tins sources)) (sym c.in_default.ensures.first),
         record { same_roots = refl; same_trees = refl; same_records = refl },
       );
     }
@@ -48,8 +48,8 @@ returns-then-self-symbol c =
     let ss = before.symbols.now in
     let sources = c.args.sources.now in
     let f = c.in-Some.symbol in
-    let tins = sym c.if-not-all-tins.ensures in
-    let there = sources_there before.tins sources tins (sym c.if-not-all-filled.ensures) in
+    let tins = sym c.if-not-all_tins.ensures in
+    let there = sources_there before.tins sources tins (sym c.if-not-all_filled.ensures) in
     record {
       card = record { symbols = refl; rules = refl; room = refl };
       cases = (
@@ -60,50 +60,50 @@ returns-then-self-symbol c =
       );
     }
 
-pub returns-in-default-node-over : goal.returns-in-default-node-over
-returns-in-default-node-over c =
+pub returns-in_default-node_over : goal.returns-in_default-node_over
+returns-in_default-node_over c =
     let before = c.args.self.now in
     let f = c.in-Some.symbol in
     let inside = c.in-Some.ensures.within in
     let few = few_any before.symbols.now f (record { name = []; arity = 0 }) inside (before.few f inside) in
-    let many = c.in-default-node-over.ensures in
+    let many = c.in_default-node_over.ensures in
     absurd (omega (arith, c.if-self-symbol.false))
 
-pub invariant-of-self : goal.invariant-of-self
-invariant-of-self c =
+pub invariant_of-self : goal.invariant_of-self
+invariant_of-self c =
     let before = c.args.self.now in
     let ss = before.symbols.now in
     let sources = c.args.sources.now in
     let f = c.in-Some.symbol in
-    let tins = sym c.if-not-all-tins.ensures in
-    let filled = sym c.if-not-all-filled.ensures in
+    let tins = sym c.if-not-all_tins.ensures in
+    let filled = sym c.if-not-all_filled.ensures in
     let t = node f (over before.tins sources) in
     let interned = c.in-Some-intern.ensures.cases in
-    let same = c.in-Some-node-over.ensures.1 in
+    let same = c.in-Some-node_over.ensures.1 in
     let front = interned_front before.tins.table c.intern.new.self.table _ c.in-Some-intern.at interned in
     let held = subst (Holds c.intern.new.self.table c.in-Some-intern.at) same interned.holds in
     let after = filled_tins before.tins before.compact t c.intern.new.self c.set.new.self c.args.target c.in-Some-intern.at
-    c.in-Some-intern.ensures.roots front.0 front.1 held c.set.ensures.compacted in (
-      before.many,
-      (
-        before.few,
-        (
-          compacted_compact _ _ _ _ c.set.ensures.compacted,
-          (
-            subst (AllOn (arities ss)) (sym after) (set_on (arities ss) (tin_trees before.tins) c.args.target (Some t) before.card
-                (join_on before.tins ss f _ c.in-Some.ensures.within sources c.if-self-symbol.false before.card tins filled)),
-            tt,
-          ),
-        ),
-      ),
-    )
+    c.in-Some-intern.ensures.roots front.0 front.1 held c.set.ensures.compacted in
+    record {
+      many = before.many;
+      few = before.few;
+      compact = compacted_compact _ _ _ _ c.set.ensures.compacted;
+      card =
+          subst (AllOn (arities ss)) (sym after) (set_on (arities ss) (tin_trees before.tins) c.args.target (Some t) before.card
+          (join_on before.tins ss f _ c.in-Some.ensures.within sources c.if-self-symbol.false before.card tins filled));
+    }
 
-pub invariant-of-self-in-None : goal.invariant-of-self-in-None
-invariant-of-self-in-None c =
+pub invariant_of-self-in-None : goal.invariant_of-self-in-None
+invariant_of-self-in-None c =
     let before = c.args.self.now in
     let full = c.in-None.ensures.cases in
     let roots = c.in-None.ensures.roots in
-    (before.many, (before.few, (same_compact before.tins c.intern.new.self full.same roots before.compact, (same_on (arities before.symbols.now) before.tins c.intern.new.self full.same roots before.card, tt))))
+    record {
+      many = before.many;
+      few = before.few;
+      compact = same_compact before.tins c.intern.new.self full.same roots before.compact;
+      card = same_on (arities before.symbols.now) before.tins c.intern.new.self full.same roots before.card;
+    }
 
 pub returns-in-None : goal.returns-in-None
 returns-in-None c =
@@ -111,10 +111,10 @@ returns-in-None c =
     let ss = before.symbols.now in
     let sources = c.args.sources.now in
     let f = c.in-Some.symbol in
-    let tins = sym c.if-not-all-tins.ensures in
-    let there = sources_there before.tins sources tins (sym c.if-not-all-filled.ensures) in
+    let tins = sym c.if-not-all_tins.ensures in
+    let there = sources_there before.tins sources tins (sym c.if-not-all_filled.ensures) in
     let full = c.in-None.ensures.cases in
-    let same = c.in-Some-node-over.ensures.1 in
+    let same = c.in-Some-node_over.ensures.1 in
     let t = node f (over before.tins sources) in
     record {
       card = record { symbols = refl; rules = refl; room = c.in-None.ensures.capacity };
@@ -134,10 +134,10 @@ returns-in-Some-intern c =
     let ss = before.symbols.now in
     let sources = c.args.sources.now in
     let f = c.in-Some.symbol in
-    let tins = sym c.if-not-all-tins.ensures in
-    let there = sources_there before.tins sources tins (sym c.if-not-all-filled.ensures) in
+    let tins = sym c.if-not-all_tins.ensures in
+    let there = sources_there before.tins sources tins (sym c.if-not-all_filled.ensures) in
     let interned = c.in-Some-intern.ensures.cases in
-    let same = c.in-Some-node-over.ensures.1 in
+    let same = c.in-Some-node_over.ensures.1 in
     let t = node f (over before.tins sources) in
     let front = interned_front before.tins.table c.intern.new.self.table _ c.in-Some-intern.at interned in
     let held = subst (Holds c.intern.new.self.table c.in-Some-intern.at) same interned.holds in

@@ -1,4 +1,4 @@
-use Rattle.std.proofs.Common.{◌≡◌, ◌<◌, ◌≤◌, true, [], length, set, Some, Ok, Err, sym, refl, ap, ◌∙◌, subst}
+use Rattle.std.proofs.Common.{◌<◌, ◌≤◌, [], length, set, Some, Ok, Err, sym, refl, ap, ◌∙◌, subst}
 use Rattle.std.proofs.lemmas.Result.{err_from_is_err_and}
 use Rattle.rewriting.specs.Subterms.{walk}
 use Rattle.card.specs.Records.{arities}
@@ -19,17 +19,17 @@ pub build-requires : goal.build-requires
 build-requires c =
     let ss = c.args.self.now.symbols.now in
     let ps = c.places.result.now in
-    let e = recipe_over ss c.args.text.now (Ok ps) c.args.self.now.many (c.in-ok-recipe.ensures ∙ ap Ok (sym c.places.ensures)) in
+    let e = recipe_over ss c.args.text.now (Ok ps) c.args.self.now.many (c.in_ok-recipe.ensures ∙ ap Ok (sym c.places.ensures)) in
     let r = read_as ss c.args.text.now ps e in
     record { few = few_children ss c.args.self.now.few; spelled = r.spells; ground = r.ground; short = r.short }
 
-pub returns-in-err-recipe : goal.returns-in-err-recipe
-returns-in-err-recipe c =
+pub returns-in_err-recipe : goal.returns-in_err-recipe
+returns-in_err-recipe c =
     let before = c.args.self.now in
     let ss = before.symbols.now in
-    let p = err_from_is_err_and c.from-residual.result c.from-residual.ensures.1 in
-    let f = c.in-err-recipe.field-0.0 in
-    let e = recipe_over ss c.args.text.now (Err f) before.many c.in-err-recipe.ensures in
+    let p = err_from_is_err_and c.from_residual.result c.from_residual.ensures.1 in
+    let f = c.in_err-recipe.field-0.0 in
+    let e = recipe_over ss c.args.text.now (Err f) before.many c.in_err-recipe.ensures in
     record {
       card = record { symbols = refl; rules = refl; room = refl };
       cases = rw (p.1, p.2)
@@ -41,7 +41,7 @@ returns-in-None c =
     let before = c.args.self.now in
     let ss = before.symbols.now in
     let ps = c.places.result.now in
-    let e = recipe_over ss c.args.text.now (Ok ps) before.many (c.in-ok-recipe.ensures ∙ ap Ok (sym c.places.ensures)) in
+    let e = recipe_over ss c.args.text.now (Ok ps) before.many (c.in_ok-recipe.ensures ∙ ap Ok (sym c.places.ensures)) in
     let r = read_as ss c.args.text.now ps e in
     let full = c.in-None.ensures.cases in
     record {
@@ -54,33 +54,30 @@ returns-in-None c =
       );
     }
 
-pub invariant-of-self : goal.invariant-of-self
-invariant-of-self c =
+pub invariant_of-self : goal.invariant_of-self
+invariant_of-self c =
     let before = c.args.self.now in
     let ss = before.symbols.now in
     let ps = c.places.result.now in
-    let e = recipe_over ss c.args.text.now (Ok ps) before.many (c.in-ok-recipe.ensures ∙ ap Ok (sym c.places.ensures)) in
+    let e = recipe_over ss c.args.text.now (Ok ps) before.many (c.in_ok-recipe.ensures ∙ ap Ok (sym c.places.ensures)) in
     let r = read_as ss c.args.text.now ps e in
     let built = c.in-Some.ensures.cases in
     let tins = filled_tins before.tins before.compact (spelled_tree (arities ss) (trees before.tins.table) [] ps) c.build.new.self c.set.new.self c.args.tin c.in-Some.at
     c.build.ensures.roots built.added built.front built.holds c.set.ensures.compacted
-    ∙ ap (λ t. set (tin_trees before.tins) c.args.tin (Some t)) (spelled_same ss ps r (trees before.tins.table)) in (
-      before.many,
-      (
-        before.few,
-        (
-          compacted_compact _ _ _ _ c.set.ensures.compacted,
-          (subst (AllOn (arities ss)) (sym tins) (set_on (arities ss) (tin_trees before.tins) c.args.tin (Some (recipe_tree ss ps)) before.card (on_from (arities ss) (recipe_tree ss ps) (recipe_on ss ps r))), tt),
-        ),
-      ),
-    )
+    ∙ ap (λ t. set (tin_trees before.tins) c.args.tin (Some t)) (spelled_same ss ps r (trees before.tins.table)) in
+    record {
+      many = before.many;
+      few = before.few;
+      compact = compacted_compact _ _ _ _ c.set.ensures.compacted;
+      card = subst (AllOn (arities ss)) (sym tins) (set_on (arities ss) (tin_trees before.tins) c.args.tin (Some (recipe_tree ss ps)) before.card (on_from (arities ss) (recipe_tree ss ps) (recipe_on ss ps r)));
+    }
 
 pub returns-in-Some : goal.returns-in-Some
 returns-in-Some c =
     let before = c.args.self.now in
     let ss = before.symbols.now in
     let ps = c.places.result.now in
-    let e = recipe_over ss c.args.text.now (Ok ps) before.many (c.in-ok-recipe.ensures ∙ ap Ok (sym c.places.ensures)) in
+    let e = recipe_over ss c.args.text.now (Ok ps) before.many (c.in_ok-recipe.ensures ∙ ap Ok (sym c.places.ensures)) in
     let r = read_as ss c.args.text.now ps e in
     let built = c.in-Some.ensures.cases in
     let same = spelled_same ss ps r (trees before.tins.table) in

@@ -3,9 +3,16 @@ use Rattle.dag.specs.Tables.{node_tree}
 use Rattle.store.proofs.Rooted.{intern_grows, used_more}
 use Rattle.store.proofs.tins.Tins.intern.Goals as goal
 
-pub invariant-of-self : goal.invariant-of-self
-invariant-of-self c =
+pub invariant_of-self : goal.invariant_of-self
+invariant_of-self c =
     let before = c.args.self.now in
     let same = sym c.intern.ensures.capacity in
     let grows = intern_grows before.table c.intern.new.self (node_tree before.table c.args.node) c.intern.result c.intern.ensures.cases in
-    (before.marks_long ∙ same, (before.order_long ∙ same, (before.numbers_long ∙ same, (before.clear, (before.sixteen, (used_more before.table.count c.intern.new.self.count before.roots grows before.used, tt))))))
+    record {
+      marks_long = before.marks_long ∙ same;
+      order_long = before.order_long ∙ same;
+      numbers_long = before.numbers_long ∙ same;
+      clear = before.clear;
+      sixteen = before.sixteen;
+      used = used_more before.table.count c.intern.new.self.count before.roots grows before.used;
+    }

@@ -1,4 +1,4 @@
-use Rattle.std.proofs.Common.{◌≡◌, length, sym, ◌∙◌, subst, arith, rules}
+use Rattle.std.proofs.Common.{◌≡◌, length, sym, ◌∙◌, subst, rules}
 use Rattle.std.proofs.lemmas.List.{with_items_is}
 use Rattle.dag.specs.Roots.{RootsInUse}
 use Rattle.dag.specs.Walks.{Clear}
@@ -14,23 +14,16 @@ compact-requires c =
       clear = search rules;
     }
 
-pub invariant-of-self : goal.invariant-of-self
-invariant-of-self c =
+pub invariant_of-self : goal.invariant_of-self
+invariant_of-self c =
     let before = c.args.self.now in
     let same = sym c.compact.ensures.capacity in
-    let long : length c.compact.new.marks ≡ before.marks.len = search rules in (
-      before.marks_long ∙ same,
-      (
-        before.order_long ∙ same,
-        (
-          before.numbers_long ∙ same,
-          (
-            subst Clear (sym (with_items_is before.marks c.compact.new.marks long)) c.compact.ensures.clear,
-            (
-              search rules,
-              (subst (λ n. RootsInUse n c.compact.new.roots) (one_tree_each c.compact.new.table) c.compact.ensures.compacted.roots_in_use, tt),
-            ),
-          ),
-        ),
-      ),
-    )
+    let long : length c.compact.new.marks ≡ before.marks.len = search rules in
+    record {
+      marks_long = before.marks_long ∙ same;
+      order_long = before.order_long ∙ same;
+      numbers_long = before.numbers_long ∙ same;
+      clear = subst Clear (sym (with_items_is before.marks c.compact.new.marks long)) c.compact.ensures.clear;
+      sixteen = search rules;
+      used = subst (λ n. RootsInUse n c.compact.new.roots) (one_tree_each c.compact.new.table) c.compact.ensures.compacted.roots_in_use;
+    }

@@ -28,9 +28,9 @@ returns c =
     let n = c.node.result.row in
     let is = c.node.ensures.same.1 in
     let kids = subst (λ m. All (λ x. x < m) (children_of n)) (sym (one_tree_each table)) (children_all table.count n c.node.result.few c.node.ensures.over) in
-    let named : letters_of c.name-at.result ≡ name_of c.args.symbols.now (symbol (tree_at (trees table) k)) =
-    ap letters_of c.name-at.ensures ∙ ap (name_of c.args.symbols.now) (ap (λ r. r.symbol) c.to-row-row.ensures ∙ (c.renumbered.ensures.symbol ∙ sym (ap symbol is))) in
-    let numbered = ap children_of c.to-row-row.ensures ∙ (c.renumbered.ensures.children
+    let named : letters_of c.name_at.result ≡ name_of c.args.symbols.now (symbol (tree_at (trees table) k)) =
+    ap letters_of c.name_at.ensures ∙ ap (name_of c.args.symbols.now) (ap (λ r. r.symbol) c.to_row-row.ensures ∙ (c.renumbered.ensures.symbol ∙ sym (ap symbol is))) in
+    let numbered = ap children_of c.to_row-row.ensures ∙ (c.renumbered.ensures.children
     ∙ row_children (trees table) (trees_at table c.args.order.now) c.args.numbers.now c.requires.ready.numbered (tree_at (trees table) k) n.symbol (children_of n)
     c.requires.ready.children_there (tree_listed (trees table) c.args.order.now c.args.place c.requires.inside) is kids) in
     ap₂ (line_text (c.args.place + 1)) named numbered

@@ -1,6 +1,5 @@
 use Rattle.std.proofs.Common.{length, sym, ap, ◌∙◌, arith, length-take}
 use Rattle.card.specs.Records.{name_of}
-use Rattle.store.specs.Printing.{line_at}
 use Rattle.store.proofs.Printed.{lines_longer, no_lines}
 use Rattle.store.proofs.tins.printing.lines_length.Goals as goal
 
@@ -11,8 +10,8 @@ pub loop-i-preserved : goal.loop-i-preserved
 loop-i-preserved c =
     let text = c.text-text.result in
     let more =
-    lines_longer (name_of c.args.symbols.now) c.args.table.now c.args.order.now c.loop-i.i c.as-bytes.result.now (omega arith)
-    (c.as-bytes.ensures ∙ (c.text-text.ensures ∙ c.line-at.ensures)) in
+    lines_longer (name_of c.args.symbols.now) c.args.table.now c.args.order.now c.loop-i.i c.as_bytes.result.now (omega arith)
+    (c.as_bytes.ensures ∙ (c.text-text.ensures ∙ c.line_at.ensures)) in
     let short = length-take text.count text.bytes in
-    let same = ap length c.as-bytes.ensures in
+    let same = ap length c.as_bytes.ensures in
     (omega (arith, c.loop-i.invariant.0, more), omega (arith, c.loop-i.invariant.1, same, short, text.few))

@@ -6,4 +6,4 @@ use Rattle.store.proofs.tins.printing.put_behind.Goals as goal
 pub returns : goal.returns
 returns c =
     let put = c.in-Some.ensures in
-    record { end = ap (λ n. c.args.at + n) put.count; bytes = tail_put (bytes_of c.args.text.now) c.args.out.now c.write-to.new.out c.args.at c.in-Some.count put }
+    record { end = ap (λ n. c.args.at + n) put.count; bytes = tail_put (bytes_of c.args.text.now) c.args.out.now c.write_to.new.out c.args.at c.in-Some.count put }
