@@ -1,6 +1,6 @@
 -- Names as bytes: a scan from left to right tells whether some name fills them. Assumes nothing.
 use Rattle.std.proofs.Common.{◌≡◌, ℕ, zero, suc, ◌+◌, ◌-◌, ◌<◌, ◌≤◌, Bool, true, false, not, ◌&&◌, eqb, leb, ◌⊎◌, List, [], ◌∷◌, ◌++◌, length, get_or, take, drop, replicate, Decides, sym, refl, ap, ◌∙◌, subst, ap₂, inl, inr, append_assoc, append-nil, arith}
-use Rattle.std.specs.List.{AllByRecursion as All}
+use Rattle.std.specs.List.{AllByRecursion}
 use Rattle.std.proofs.lemmas.Slice.Eq.{compares_Decides}
 use Rattle.std.proofs.lemmas.List.{at_drop_more, take_more}
 use Rattle.std.proofs.ByRecursion.{All-get_or}
@@ -33,7 +33,7 @@ zeros (b ∷ bs) h = go (zeros bs) (eqb b 0) refl h
 
 record Fronted (bs : List ℕ) : Type 0 where
   pub front : List ℕ
-  pub letters : All (λ b. letter b ≡ true) front
+  pub letters : AllByRecursion (λ b. letter b ≡ true) front
   pub fits : length front ≤ length bs
   pub split : bs ≡ front ++ replicate (length bs - length front) 0
 
@@ -67,7 +67,7 @@ zeros_pass : (ended : Bool) (k : ℕ) → letters_then_zeros ended (replicate k 
 zeros_pass ended zero = refl
 zeros_pass ended (suc k) = zeros_pass true k
 
-letters_pass : (front : List ℕ) (k : ℕ) → All (λ b. letter b ≡ true) front
+letters_pass : (front : List ℕ) (k : ℕ) → AllByRecursion (λ b. letter b ≡ true) front
     → letters_then_zeros false (front ++ replicate k 0) ≡ true
 letters_pass [] k h = zeros_pass false k
 letters_pass (b ∷ front) k h = go (letters_pass front k h.1) (eqb b 0) refl
@@ -160,7 +160,7 @@ letters_few (suc b ∷ bs) = let h = letters_few bs in omega arith
 letter_above : (b : ℕ) → letter b ≡ true → 97 ≤ b
 letter_above b h = leb-true 97 b (and_parts (leb 97 b) (leb b 122) h).0
 
-pub letters_of_filled : (w : List ℕ) (n : ℕ) → All (λ b. letter b ≡ true) w → letters_of (w ++ replicate n 0) ≡ w
+pub letters_of_filled : (w : List ℕ) (n : ℕ) → AllByRecursion (λ b. letter b ≡ true) w → letters_of (w ++ replicate n 0) ≡ w
 letters_of_filled [] zero all = refl
 letters_of_filled [] (suc n) all = refl
 letters_of_filled (zero ∷ w) n all = absurd (omega (arith, letter_above 0 all.0))
@@ -177,7 +177,7 @@ lettered s w =
     record { is_name = subst Name (sym e) w.is.named; holds = w.is.holds ∙ ap filled (sym e) }
 
 -- no two symbols of a card have the same name
-pub names_apart : (ss : List SymbolRecord) → All WellFormedSymbol ss → DistinctNames ss → (f g : ℕ) → f < length ss → g < length ss → name_of ss f ≡ name_of ss g → f ≡ g
+pub names_apart : (ss : List SymbolRecord) → AllByRecursion WellFormedSymbol ss → DistinctNames ss → (f g : ℕ) → f < length ss → g < length ss → name_of ss f ≡ name_of ss g → f ≡ g
 names_apart ss each distinct f g h k e = go (cases_lt f g)
   where
     same : (get_or ss f blank_symbol).name ≡ (get_or ss g blank_symbol).name

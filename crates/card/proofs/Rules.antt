@@ -2,7 +2,7 @@
 use Rattle.std.proofs.Common.{◌≡◌, ℕ, suc, ◌+◌, ◌-◌, ◌<◌, ◌≤◌, Bool, true, false, eqb, List, [], ◌∷◌, ◌++◌, map, length, get_or, take, drop, replicate, is_some, Some, None, Decides, Option, sym, refl, ap, ◌∙◌, subst, ⊎_elim, arith}
 use mathlib.Core.List.Memᴰ
 use mathlib.Core.List.{Memᴰ}
-use Rattle.std.specs.List.{AllByRecursion as All}
+use Rattle.std.specs.List.{AllByRecursion}
 use Rattle.std.proofs.lemmas.List.{at_drop_all, drop_more}
 use Rattle.std.proofs.lemmas.Bool.{eqb-true, or_cases, true≢false}
 use Rattle.std.proofs.lemmas.Bool.Decides.{Decides-like}
@@ -139,7 +139,7 @@ rule_on_card Σ n r w =
     }
 
 module _ (Σ : theory.Signature) where
-  rules_on_card : (n : ℕ) (rs : List RuleRecord) → All (WellFormedRule Σ) rs → (q : theory.Rule)
+  rules_on_card : (n : ℕ) (rs : List RuleRecord) → AllByRecursion (WellFormedRule Σ) rs → (q : theory.Rule)
       → Memᴰ q (rules_from Σ n rs) → theory.WellFormedRule Σ q
   rules_on_card n [] h q m = absurd (Memᴰ.not-nil m)
   rules_on_card n (r ∷ rs) h q (Memᴰ.head e) = subst (theory.WellFormedRule Σ) (sym e) (rule_on_card Σ n r h.0)
@@ -163,9 +163,9 @@ kept_records_make_a_well_formed_card ss rs k =
 
 -- what the tests of the first m symbols and of the first n rules tell
 pub record Tested (ss : List SymbolRecord) (rs : List RuleRecord) (b : Bool) (m n : ℕ) : Type 0 where
-  pub each_symbol : All WellFormedSymbol (take m ss)
+  pub each_symbol : AllByRecursion WellFormedSymbol (take m ss)
   pub distinct : DistinctNames (take m ss)
-  pub rules_told : Decides b (All (WellFormedRule (arities (take m ss))) (take n rs))
+  pub rules_told : Decides b (AllByRecursion (WellFormedRule (arities (take m ss))) (take n rs))
 
 pub kept_told : (ss : List SymbolRecord) (rs : List RuleRecord) (card : Card) (b : Bool)
     → 64 ≤ length ss → 64 ≤ length rs → card.symbols ≤ 64 → card.rules ≤ 64

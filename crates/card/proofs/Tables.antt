@@ -1,6 +1,6 @@
 -- Tests of every record of a table, and of an answer that may be missing. Assumes nothing.
 use Rattle.std.proofs.Common.{◌≡◌, ℕ, ◌<◌, ◌≤◌, Bool, true, false, not, eqb, List, length, get_or, take, Some, None, Decides, Option, sym, refl, ap, ◌∙◌, subst, arith}
-use Rattle.std.specs.List.{AllByRecursion as All}
+use Rattle.std.specs.List.{AllByRecursion}
 use Rattle.std.proofs.ByRecursion.{All-get_or}
 use Rattle.std.proofs.lemmas.List.{take_all}
 use Rattle.std.specs.Option.{option_eq}
@@ -8,11 +8,11 @@ use Rattle.std.proofs.lemmas.Bool.{eq-eqb, eqb-true, not-false, not-true, true�
 use Rattle.std.proofs.lemmas.Bool.Decides.{not_from_Decides}
 
 module _ {X : Type 0} (P : X → Type 0) (xs : List X) (i : ℕ) where
-  pub not_all : (d : X) → i < length xs → (P (get_or xs i d) → ⊥) → Decides false (All P xs)
+  pub not_all : (d : X) → i < length xs → (P (get_or xs i d) → ⊥) → Decides false (AllByRecursion P xs)
   not_all d more fails = (λ e. absurd (true≢false (sym e)), λ h. absurd (fails (All-get_or P xs i d more h)))
 
-  pub all_passed : length xs ≤ i → All P (take i xs) → Decides true (All P xs)
-  all_passed end h = (λ e. subst (All P) (take_all i xs end) h, λ h. refl)
+  pub all_passed : length xs ≤ i → AllByRecursion P (take i xs) → Decides true (AllByRecursion P xs)
+  all_passed end h = (λ e. subst (AllByRecursion P) (take_all i xs end) h, λ h. refl)
 
 -- what `==` and `!=` with a number that is there tell
 module _ (o : Option ℕ) (n : ℕ) where

@@ -1,6 +1,6 @@
 -- Names as bytes. Assumes nothing.
 use Rattle.std.specs.Prelude.{◌≡◌, ℕ, zero, suc, ◌-◌, ◌≤◌, Bool, true, false, ◌&&◌, List, [], ◌∷◌, ◌++◌, length, replicate, ◌==◌, nat_le}
-use Rattle.std.specs.List.{AllByRecursion as All}
+use Rattle.std.specs.List.{AllByRecursion}
 
 -- one of a to z
 abbrev pub letter : ℕ → Bool
@@ -9,7 +9,7 @@ letter b = nat_le 97 b && nat_le b 122
 pub record Name (name : List ℕ) : Type 0 where
   pub some : 1 ≤ length name
   pub few : length name ≤ 12
-  pub letters : All (λ b. letter b ≡ true) name
+  pub letters : AllByRecursion (λ b. letter b ≡ true) name
 
 -- a name as a record holds it: zeros fill it to 12 bytes
 abbrev pub filled : List ℕ → List ℕ

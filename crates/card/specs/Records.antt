@@ -1,6 +1,6 @@
 -- The records of a card: what a counted one has to be, and the card that the counted ones make. Assumes nothing.
 use Rattle.std.specs.Prelude.{◌≡◌, ℕ, suc, ◌-◌, ◌<◌, ◌≤◌, true, false, List, [], ◌∷◌, ◌++◌, map, length, take, replicate, Some, None, Option, MatchOption, ◌≢◌, slice_index_or}
-use Rattle.std.specs.List.{AllByRecursion as All}
+use Rattle.std.specs.List.{AllByRecursion}
 use Rattle.rewriting.specs.Terms.{Term, var, occurs}
 use Rattle.rewriting.specs.Cards as theory
 use Rattle.rewriting.specs.Places as theory_places
@@ -81,9 +81,9 @@ pub record WellFormedRule (Σ : theory.Signature) (r : RuleRecord) : Type 0 wher
 
 -- the records of a card, all of them counted
 pub record KeepsRules (ss : List SymbolRecord) (rs : List RuleRecord) : Type 0 where
-  pub each_symbol : All WellFormedSymbol ss
+  pub each_symbol : AllByRecursion WellFormedSymbol ss
   pub distinct : DistinctNames ss
-  pub each_rule : All (WellFormedRule (arities ss)) rs
+  pub each_rule : AllByRecursion (WellFormedRule (arities ss)) rs
 
 abbrev pub counted_symbols : Card → List SymbolRecord → List SymbolRecord
 counted_symbols c ss = take c.symbols ss

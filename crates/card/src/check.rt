@@ -1,6 +1,6 @@
 // The test that the counted records of the two tables keep the card's rules.
 ghost use Rattle.std.specs.Prelude.{◌≡◌, ◌+◌, ◌^◌, ◌<◌, ◌≤◌, IfSome, Decides};
-ghost use Rattle.std.specs.List.{AllByRecursion as All};
+ghost use Rattle.std.specs.List.{AllByRecursion};
 ghost use Rattle.card.specs.Records.{arities, DistinctNames, Kept, WellFormedRule, WellFormedSymbol};
 ghost use Rattle.card.specs.Scans.{due_after, HoldsTerm, mentions, variable_of, Within};
 
@@ -24,7 +24,7 @@ fn is_symbol(symbol: &SymbolRecord) -> bool
 }
 
 fn all_symbols(symbols: &[SymbolRecord]) -> bool
-    ensures { Decides result (All WellFormedSymbol symbols.now) }
+    ensures { Decides result (AllByRecursion WellFormedSymbol symbols.now) }
 {
     for symbol in symbols {
         if !is_symbol(symbol) {
@@ -125,7 +125,7 @@ fn is_rule(symbols: &[SymbolRecord], rule: &RuleRecord) -> bool
 }
 
 fn all_rules(symbols: &[SymbolRecord], rules: &[RuleRecord]) -> bool
-    ensures { Decides result (All (WellFormedRule (arities symbols.now)) rules.now) }
+    ensures { Decides result (AllByRecursion (WellFormedRule (arities symbols.now)) rules.now) }
 {
     for rule in rules {
         if !is_rule(symbols, rule) {

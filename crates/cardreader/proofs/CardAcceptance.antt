@@ -2,7 +2,7 @@
 use Rattle.std.proofs.Common.{◌≡◌, ℕ, suc, ◌+◌, ◌<◌, ◌≤◌, Bool, true, false, ◌||◌, eqb, leb, List, [], ◌∷◌, ◌++◌, length, get_or, take, drop, set, replicate, sym, refl, ap, ◌∙◌, subst, ap₂, append_assoc, append-nil, zero-add, add-one, arith, length-append, length-set}
 use lib.ListN.{get_or-append}
 use lib.Seq.{take-append_seam}
-use Rattle.std.specs.List.{AllByRecursion as All}
+use Rattle.std.specs.List.{AllByRecursion}
 use Rattle.std.proofs.lemmas.List.{take_more_set, take-append-drop, length-take-le}
 use Rattle.std.proofs.lemmas.Bool.{leb-true, and_parts, ne_eqb}
 use Rattle.card.specs.Bytes.{letter}
@@ -37,7 +37,7 @@ rule_has_equals : (ss : List SymbolRecord) (line : List ℕ) (r : RuleRecord) �
 rule_has_equals ss line r w = ap has_equals w.spelled ∙ equals_inside (written ss w.left) (written ss w.right)
 
 -- a symbol line has none
-letters_lack_equals : (w rest : List ℕ) → All (λ b. letter b ≡ true) w → has_equals (w ++ rest) ≡ has_equals rest
+letters_lack_equals : (w rest : List ℕ) → AllByRecursion (λ b. letter b ≡ true) w → has_equals (w ++ rest) ≡ has_equals rest
 letters_lack_equals [] rest all = refl
 letters_lack_equals (b ∷ w) rest all =
     let above = leb-true 97 b (and_parts (leb 97 b) (leb b 122) all.0).0 in

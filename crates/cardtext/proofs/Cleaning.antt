@@ -1,7 +1,7 @@
 -- What cleaning keeps of a text.
 use Rattle.std.proofs.Common.{◌≡◌, ℕ, suc, ◌+◌, ◌-◌, ◌<◌, ◌≤◌, Bool, true, false, cond, not, eqb, ◌≢◌, ◌⊎◌, List, [], ◌∷◌, ◌++◌, length, get_or, take, drop, set, replicate, filter, sym, refl, ap, ◌∙◌, inl, inr, zero-add, one-add, arith}
 use borrow.Rule.Slice.PartMut.{put_mid}
-use Rattle.std.specs.List.{AllByRecursion as All}
+use Rattle.std.specs.List.{AllByRecursion}
 use Rattle.std.proofs.lemmas.List.{append_assoc, append-nil, at_drop_all, at_drop_more, drop_all, length-drop, take_more_set, take_rest}
 use Rattle.std.proofs.lemmas.List.Sums.{sum_by-cons}
 use Rattle.std.proofs.lemmas.Bool.Decides.{nat_tests}
@@ -38,11 +38,11 @@ cleaned_text_is_no_longer = length_cleaned_behind false
 
 -- WHAT IS LEFT
 
-plain_put_if : (k : Bool) (b : ℕ) (bs : List ℕ) → (k ≡ true → Plain b) → All Plain bs → All Plain (put_if k b bs)
+plain_put_if : (k : Bool) (b : ℕ) (bs : List ℕ) → (k ≡ true → Plain b) → AllByRecursion Plain bs → AllByRecursion Plain (put_if k b bs)
 plain_put_if true b bs p rest = (p refl, rest)
 plain_put_if false b bs p rest = rest
 
-plain_cleaned_behind : (n : Bool) (text : List ℕ) → All Plain (cleaned_behind n text)
+plain_cleaned_behind : (n : Bool) (text : List ℕ) → AllByRecursion Plain (cleaned_behind n text)
 plain_cleaned_behind n [] = tt
 plain_cleaned_behind n (b ∷ bs) = plain_put_if (kept n b) b _ (kept_is_plain n b) (plain_cleaned_behind (in_note n b) bs)
 
@@ -73,7 +73,7 @@ cleaning_keeps_line_ends = line_ends_cleaned_behind false
 
 -- CLEANING TWICE
 
-cleaned_plain : (text : List ℕ) → All Plain text → cleaned text ≡ text
+cleaned_plain : (text : List ℕ) → AllByRecursion Plain text → cleaned text ≡ text
 cleaned_plain [] all = refl
 cleaned_plain (b ∷ bs) all =
     let k = plain_is_kept b all.0 in
@@ -91,7 +91,7 @@ in_note_begun n b other why = grind (arith, nat_tests)
 outside_stays : (b : ℕ) → eqb b 35 ≡ false → in_note false b ≡ false
 outside_stays b e = grind (arith, nat_tests)
 
-note_is_dropped : (line : List ℕ) → All (λ b. b ≢ 10) line → cleaned_behind true line ≡ []
+note_is_dropped : (line : List ℕ) → AllByRecursion (λ b. b ≢ 10) line → cleaned_behind true line ≡ []
 note_is_dropped [] all = refl
 note_is_dropped (b ∷ bs) all =
     let m = in_note_begun true b all.0 (inl refl) in

@@ -1,6 +1,6 @@
 -- What the lines of a text are.
 use Rattle.std.proofs.Common.{◌≡◌, ℕ, suc, ◌+◌, ◌<◌, ◌≤◌, Bool, true, false, cond, ◌≢◌, List, [], ◌∷◌, ◌++◌, length, take, drop, sym, refl, ap, ◌∙◌, arith}
-use Rattle.std.specs.List.{prefix_len, AllByRecursion as All}
+use Rattle.std.specs.List.{prefix_len, AllByRecursion}
 use Rattle.std.proofs.lemmas.List.{drop_all, length-drop}
 use Rattle.std.proofs.lemmas.Bool.Decides.{nat_tests}
 use Rattle.cardtext.specs.Lines.{Ended, inner, joined_lines, lines, LinesMakeTheText, NoLineHasALineEnd, put_byte}
@@ -21,8 +21,8 @@ end_is_not_inner b e = rw e
 
 -- LINE ENDS
 
-all_put_byte : (P : ℕ → Type 0) (k : Bool) (b : ℕ) (ls : List (List ℕ)) → (k ≡ true → P b) → All (All P) ls
-    → All (All P) (put_byte k b ls)
+all_put_byte : (P : ℕ → Type 0) (k : Bool) (b : ℕ) (ls : List (List ℕ)) → (k ≡ true → P b) → AllByRecursion (AllByRecursion P) ls
+    → AllByRecursion (AllByRecursion P) (put_byte k b ls)
 all_put_byte P true b [] p all = ((p refl, tt), tt)
 all_put_byte P true b (l ∷ ls) p all = ((p refl, all.0), all.1)
 all_put_byte P false b ls p all = (tt, all)

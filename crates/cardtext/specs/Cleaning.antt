@@ -1,6 +1,6 @@
 -- A card text without its blanks, tabs and notes. Assumes nothing.
 use Rattle.std.specs.Prelude.{◌≡◌, ℕ, ◌-◌, ◌<◌, ◌≤◌, Bool, true, false, not, ◌&&◌, ◌||◌, ◌≢◌, List, [], ◌∷◌, ◌++◌, length, take, replicate, count_by, filter, ◌==◌, nat_eq}
-use Rattle.std.specs.List.{prefix_len, AllByRecursion as All}
+use Rattle.std.specs.List.{prefix_len, AllByRecursion}
 
 -- a blank or a tab
 abbrev pub blank : ℕ → Bool
@@ -53,7 +53,7 @@ pub record Plain (b : ℕ) : Type 0 where
   pub no_note : b ≢ 35
 
 abbrev pub CleanedTextIsPlain : Type 0
-CleanedTextIsPlain = (text : List ℕ) → All Plain (cleaned text)
+CleanedTextIsPlain = (text : List ℕ) → AllByRecursion Plain (cleaned text)
 
 abbrev pub line_ends : List ℕ → ℕ
 line_ends = count_by (λ b. nat_eq b 10)
@@ -71,4 +71,4 @@ before_note line = take (prefix_len (λ b. not (b == 35)) line) line
 -- of one line the bytes before the first "#" are kept, but for blanks and tabs
 abbrev pub CleanedLineIsWhatStandsBeforeItsNote : Type 0
 CleanedLineIsWhatStandsBeforeItsNote =
-    (line : List ℕ) → All (λ b. b ≢ 10) line → cleaned line ≡ filter (λ b. not (blank b)) (before_note line)
+    (line : List ℕ) → AllByRecursion (λ b. b ≢ 10) line → cleaned line ≡ filter (λ b. not (blank b)) (before_note line)

@@ -1,6 +1,6 @@
 -- The lines of a text, and those of a cleaned text. Assumes nothing.
 use Rattle.std.specs.Prelude.{◌≡◌, ℕ, Bool, true, false, not, ◌≢◌, List, [], ◌∷◌, ◌++◌, map, ◌==◌, slice_index_or}
-use Rattle.std.specs.List.{flat_map, AllByRecursion as All}
+use Rattle.std.specs.List.{flat_map, AllByRecursion}
 use Rattle.cardtext.specs.Cleaning.{cleaned}
 
 -- a byte that is no line end
@@ -21,7 +21,7 @@ lines (b ∷ bs) = put_byte (inner b) b (lines bs)
 -- LAWS
 
 abbrev pub NoLineHasALineEnd : Type 0
-NoLineHasALineEnd = (text : List ℕ) → All (All (λ b. b ≢ 10)) (lines text)
+NoLineHasALineEnd = (text : List ℕ) → AllByRecursion (AllByRecursion (λ b. b ≢ 10)) (lines text)
 
 -- the byte that a text ends with, or b if it is empty
 abbrev pub last_byte : ℕ → List ℕ → ℕ

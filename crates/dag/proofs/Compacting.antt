@@ -2,7 +2,7 @@
 use Rattle.std.proofs.Common.{◌≡◌, ℕ, ◌<◌, true, ◌↔◌, List, [], ◌∷◌, map, length, get_or, take, Some, None, vec_items, Option, sym, refl, ap, ◌∙◌, subst, arith}
 use mathlib.Core.List.Memᴰ
 use mathlib.Core.List.{Memᴰ}
-use Rattle.std.specs.List.{AllByRecursion as All}
+use Rattle.std.specs.List.{AllByRecursion}
 use Rattle.std.proofs.lemmas.List.{ext_get_or, get_or-map, length-map}
 use Rattle.std.proofs.lemmas.Bool.{lt-ltb}
 use Rattle.rewriting.specs.Terms.{Tree, children, to_list}
@@ -27,8 +27,8 @@ module _ (ts : List Tree) (marks order : List ℕ) (n : ℕ) (w : Walked ts mark
   listed_marked : (k : ℕ) → k < length ts → Memᴰ (tree_at ts k) (listed ts order n) → get_or marks k 0 ≡ 0 → ⊥
   listed_marked k h m z = w.unmarked k h z m
 
-  all_marked : (ks : List ℕ) → All (λ k. k < length ts) ks → ((c : Tree) → Memᴰ c (map (tree_at ts) ks) → Memᴰ c (listed ts order n))
-      → All (λ k. get_or marks k 0 ≡ 0 → ⊥) ks
+  all_marked : (ks : List ℕ) → AllByRecursion (λ k. k < length ts) ks → ((c : Tree) → Memᴰ c (map (tree_at ts) ks) → Memᴰ c (listed ts order n))
+      → AllByRecursion (λ k. get_or marks k 0 ≡ 0 → ⊥) ks
   all_marked [] b h = tt
   all_marked (k ∷ ks) b h =
       (listed_marked k b.0 (h (tree_at ts k) (Memᴰ.head refl)), all_marked ks b.1 (λ c m. h c (Memᴰ.tail m)))

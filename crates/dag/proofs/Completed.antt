@@ -2,7 +2,7 @@
 use Rattle.std.proofs.Common.{◌≡◌, ℕ, ◌+◌, ◌<◌, ◌≤◌, List, [], ◌∷◌, ◌++◌, map, length, get_or, drop, sym, ap, ◌∙◌, subst, ⊎_elim, arith}
 use mathlib.Core.List.Memᴰ
 use mathlib.Core.List.{Memᴰ}
-use Rattle.std.specs.List.{AllByRecursion as All}
+use Rattle.std.specs.List.{AllByRecursion}
 use Rattle.std.proofs.lemmas.List.{drop_more, get_or-append-add, get_or_append_left, length-append, length-drop, length-map}
 use Rattle.rewriting.specs.Cards.{Signature}
 use Rattle.rewriting.specs.Places.{forest, places}
@@ -47,7 +47,7 @@ module _ (Σ : Signature) (ps : List Place) (t : Term) (sp : Spells Σ ps t) (bi
       let T = apply (binding (trees before) bindings) t in
       let parts = drop_more stack top 0 top_inside in
       let cell : tree_at (trees after) (get_or stack top 0) ≡ T = let h = sym (ap (map (tree_at (trees after))) parts) ∙ one_left in cc in
-      let used : get_or stack top 0 < after.count = (subst (All (λ k. k < after.count)) parts u.records).0 in
+      let used : get_or stack top 0 < after.count = (subst (AllByRecursion (λ k. k < after.count)) parts u.records).0 in
       let all : (s : Tree) → Subterm s T → Memᴰ s (trees after) =
       λ s h. subterm_there (trees after) (children_there after) (Memᴰ.cast (sym cell) (record_mem after (get_or stack top 0) used)) h in
       let kept : (s : Tree) → Memᴰ s (walk T (trees before)) → Memᴰ s (trees after) =

@@ -1,6 +1,6 @@
 -- The trees of a table as a left fold over its rows: one row more, a front of the rows, one record's tree. Assumes nothing.
 use Rattle.std.proofs.Common.{◌≡◌, ℕ, ◌+◌, ◌<◌, ◌≤◌, List, [], ◌∷◌, ◌++◌, map, length, get_or, take, drop, set, sym, refl, ap, ◌∙◌, subst, arith}
-use Rattle.std.specs.List.{AllByRecursion as All}
+use Rattle.std.specs.List.{AllByRecursion}
 use Rattle.std.proofs.lemmas.List.{append_assoc, append-nil, get_or_append_left, get_or_push, length_push, length-take-le, take-append-drop, take_more, take_more_set, take-take}
 use Rattle.rewriting.specs.Terms.{Tree, node}
 use Rattle.dag.specs.declared.row.Row.{Row}
@@ -57,11 +57,11 @@ trees_front rows k n h =
     )
 
 -- a tree over records is the same over more trees
-pub over_front : (ts us : List Tree) (ks : List ℕ) → All (λ k. k < length ts) ks → map (tree_at (ts ++ us)) ks ≡ map (tree_at ts) ks
+pub over_front : (ts us : List Tree) (ks : List ℕ) → AllByRecursion (λ k. k < length ts) ks → map (tree_at (ts ++ us)) ks ≡ map (tree_at ts) ks
 over_front ts us [] h = refl
 over_front ts us (k ∷ ks) h = cc (get_or_append_left ts us _ k h.0, over_front ts us ks h.1)
 
-pub tree_over_front : (ts us : List Tree) (f : ℕ) (ks : List ℕ) → All (λ k. k < length ts) ks → tree_over (ts ++ us) f ks ≡ tree_over ts f ks
+pub tree_over_front : (ts us : List Tree) (f : ℕ) (ks : List ℕ) → AllByRecursion (λ k. k < length ts) ks → tree_over (ts ++ us) f ks ≡ tree_over ts f ks
 tree_over_front ts us f ks h = ap (λ xs. node f (from_list xs)) (over_front ts us ks h)
 
 record_tree : (rows : List Row) (k n : ℕ) → k < n → n ≤ length rows → tree_at (table_trees rows n) k ≡ row_tree (table_trees rows k) (get_or rows k blank)
@@ -79,6 +79,6 @@ tree_of_row rows n v k h =
     let f = trees_front rows k n (omega arith) in
     let fits = v.fits in
     let len = length_trees rows k (omega arith) in
-    let kids = subst (λ m. All (λ x. x < m) (children_of r)) (sym len) (children_all k r (v.shaped k h).0 (v.children_below k h)) in
+    let kids = subst (λ m. AllByRecursion (λ x. x < m) (children_of r)) (sym len) (children_all k r (v.shaped k h).0 (v.children_below k h)) in
     record_tree rows k n h fits
     ∙ (sym (tree_over_front (table_trees rows k) f.0 r.symbol (children_of r) kids) ∙ ap (λ ts. row_tree ts r) (sym f.1))

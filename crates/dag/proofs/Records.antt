@@ -1,7 +1,7 @@
 -- Records and trees of a table in order: each record has a tree of its own, behind the trees of its children. Assumes nothing.
 use Rattle.std.proofs.Common.{◌≡◌, ℕ, zero, suc, ◌+◌, ◌<◌, ◌≤◌, List, [], ◌∷◌, ◌++◌, map, length, get_or, set, sym, refl, ap, ◌∙◌, subst, ⊎_elim, add-one, arith}
 use mathlib.Core.List.{Memᴰ}
-use Rattle.std.specs.List.{AllByRecursion as All}
+use Rattle.std.specs.List.{AllByRecursion}
 use Rattle.std.proofs.lemmas.List.{get_or-set_other, get_or-set_same, length-set}
 use Rattle.std.proofs.lemmas.Bool.{cases_lt}
 use Rattle.rewriting.specs.Terms.{Tree, children, to_list}
@@ -25,7 +25,7 @@ from_list_injective (t ∷ ts) (u ∷ us) e =
     let r : from_list ts ≡ from_list us = cc in
     cc (from_list_injective ts us r)
 
-pub records_told : (ts : List Tree) → Distinct ts → (ks ls : List ℕ) → All (λ k. k < length ts) ks → All (λ k. k < length ts) ls
+pub records_told : (ts : List Tree) → Distinct ts → (ks ls : List ℕ) → AllByRecursion (λ k. k < length ts) ks → AllByRecursion (λ k. k < length ts) ls
     → map (tree_at ts) ks ≡ map (tree_at ts) ls → ks ≡ ls
 records_told ts d [] [] p q e = refl
 records_told ts d [] (l ∷ ls) p q e = cc
@@ -50,12 +50,12 @@ pub to_list_from_list : (ts : List Tree) → to_list (from_list ts) ≡ ts
 to_list_from_list [] = refl
 to_list_from_list (t ∷ ts) = ap (λ xs. t ∷ xs) (to_list_from_list ts)
 
-pub over_mem : (ts : List Tree) (ks : List ℕ) → All (λ k. k < length ts) ks → (c : Tree) → Memᴰ c (map (tree_at ts) ks) → Memᴰ c ts
+pub over_mem : (ts : List Tree) (ks : List ℕ) → AllByRecursion (λ k. k < length ts) ks → (c : Tree) → Memᴰ c (map (tree_at ts) ks) → Memᴰ c ts
 over_mem ts [] h c m = absurd (mathlib.Core.List.Memᴰ.not-nil m)
 over_mem ts (k ∷ ks) h c m =
     ⊎_elim (λ e. mathlib.Core.List.Memᴰ.cast e (place_mem blank_tree ts k h.0)) (λ n. over_mem ts ks h.1 c n) (mathlib.Core.List.Memᴰ.cases_cons m)
 
-pub child_mem : (ts : List Tree) (f : ℕ) (ks : List ℕ) → All (λ k. k < length ts) ks
+pub child_mem : (ts : List Tree) (f : ℕ) (ks : List ℕ) → AllByRecursion (λ k. k < length ts) ks
     → (c : Tree) → Memᴰ c (to_list (children (tree_over ts f ks))) → Memᴰ c ts
 child_mem ts f ks h c m = over_mem ts ks h c (subst (Memᴰ c) (to_list_from_list (map (tree_at ts) ks)) m)
 
@@ -94,7 +94,7 @@ grown_front rows n v (suc m) h =
     let s = v.shaped m (omega arith) in
     let b = v.children_below m (omega arith) in
     let new : Memᴰ (row_tree ts r) ts → ⊥ = λ k. let q = row_there rows m w r s b g k in v.unequal q.0 m q.1 (omega arith) q.2 in
-    let kids = subst (λ k. All (λ x. x < k) (children_of r)) (sym len) (children_all m r s.0 b) in
+    let kids = subst (λ k. AllByRecursion (λ x. x < k) (children_of r)) (sym len) (children_all m r s.0 b) in
     let more : table_trees rows (suc m) ≡ ts ++ (row_tree ts r ∷ []) = ap (table_trees rows) (sym (add-one m)) ∙ trees_more rows m (omega arith) in
     subst Grown (sym more) (grown g new (child_mem ts r.symbol (children_of r) kids))
 

@@ -1,6 +1,6 @@
 -- Rows that are in order: unused places, rows made from a list of children, rows with the same children. Assumes nothing.
 use Rattle.std.proofs.Common.{◌≡◌, ℕ, zero, suc, ◌+◌, ◌-◌, ◌<◌, ◌≤◌, ◌⊎◌, List, [], ◌∷◌, length, get_or, take, drop, sym, refl, ap, ◌∙◌, subst, ap₂, inl, inr, arith}
-use Rattle.std.specs.List.{AllByRecursion as All}
+use Rattle.std.specs.List.{AllByRecursion}
 use Rattle.std.proofs.ByRecursion.{All-from_get_or, All-get_or}
 use Rattle.std.proofs.lemmas.List.{ext_get_or, get_or-drop, get_or_past, get_or-take, length-drop, length-map, length-take-le, take-append-drop}
 use Rattle.dag.specs.declared.row.Row.{Row}
@@ -57,13 +57,13 @@ unused_if a m x (inl p) h = p.1
 unused_if a m x (inr q) h = absurd (omega arith)
 
 -- the records of a row's children, one by one and together
-pub children_all : (n : ℕ) (r : Row) → r.arity ≤ 4 → ChildrenBelow n r → All (λ k. k < n) (children_of r)
+pub children_all : (n : ℕ) (r : Row) → r.arity ≤ 4 → ChildrenBelow n r → AllByRecursion (λ k. k < n) (children_of r)
 children_all n r few b =
     let l = length-take-le r.arity (child_places r) few in
     All-from_get_or (λ k. k < n) (children_of r) 0
     (λ i h. let j : i < r.arity = omega arith in subst (λ k. k < n) (sym (get_or-take r.arity (child_places r) i 0 j)) (b i j))
 
-pub children_each : (n : ℕ) (r : Row) → r.arity ≤ 4 → All (λ k. k < n) (children_of r) → ChildrenBelow n r
+pub children_each : (n : ℕ) (r : Row) → r.arity ≤ 4 → AllByRecursion (λ k. k < n) (children_of r) → ChildrenBelow n r
 children_each n r few h j l =
     let m = length-take-le r.arity (child_places r) few in
     subst (λ k. k < n) (get_or-take r.arity (child_places r) j 0 l) (All-get_or (λ k. k < n) (children_of r) j 0 (omega arith) h)

@@ -2,7 +2,7 @@
 use Rattle.std.proofs.Common.{◌≡◌, ℕ, ◌+◌, ◌<◌, ◌≤◌, List, [], ◌∷◌, ◌++◌, map, length, get_or, set, vec_items, sym, refl, ap, ◌∙◌, subst, ap₂, ⊎_elim, arith}
 use mathlib.Core.List.Memᴰ
 use mathlib.Core.List.{Memᴰ}
-use Rattle.std.specs.List.{AllByRecursion as All}
+use Rattle.std.specs.List.{AllByRecursion}
 use Rattle.std.proofs.lemmas.List.{get_or_append_left, get_or_push, get_or-set_other, get_or-set_same, length_push}
 use Rattle.std.proofs.lemmas.Bool.{cases_eq}
 use Rattle.rewriting.specs.Terms.{Tree, node}
@@ -25,8 +25,8 @@ slide_starts ts marks numbers = record { placed = λ k h m. absurd (omega arith)
 
 module _ (ts : List Tree) (marks : List ℕ) (i : ℕ) (ts' : List Tree) (numbers : List ℕ) (s : Slid ts marks i ts' numbers) where
   -- records that were slid have their trees under their new numbers
-  pub over_slid : (ks : List ℕ) → All (λ k. k < i) ks → All (λ k. get_or marks k 0 ≡ 0 → ⊥) ks
-      → (map (tree_at ts') (renumber numbers ks) ≡ map (tree_at ts) ks) × All (λ k. k < length ts') (renumber numbers ks)
+  pub over_slid : (ks : List ℕ) → AllByRecursion (λ k. k < i) ks → AllByRecursion (λ k. get_or marks k 0 ≡ 0 → ⊥) ks
+      → (map (tree_at ts') (renumber numbers ks) ≡ map (tree_at ts) ks) × AllByRecursion (λ k. k < length ts') (renumber numbers ks)
   over_slid [] b m = (refl, tt)
   over_slid (k ∷ ks) b m =
       let p = s.placed k b.0 m.0 in
@@ -88,7 +88,7 @@ slid_node rows n v marks cm i h mk t numbers s m f e =
     let same : node_tree t m ≡ tree_at ts i =
     ap₂ (tree_over (trees t)) f e ∙ (ap (λ ks. node r.symbol (from_list ks)) p.0 ∙ sym (tree_of_row rows n v i h)) in
     record {
-      over = subst (λ k. ChildrenBelow k m.row) (one_tree_each t) (children_each (length (trees t)) m.row m.few (subst (All (λ k. k < length (trees t))) (sym e) p.1));
+      over = subst (λ k. ChildrenBelow k m.row) (one_tree_each t) (children_each (length (trees t)) m.row m.few (subst (AllByRecursion (λ k. k < length (trees t))) (sym e) p.1));
       same = same;
       new = λ q. not_slid ts marks i (trees t) numbers s (grown_distinct (trees_grown rows n v)) (omega (arith, length_trees rows n v.fits)) (Memᴰ.cast (sym same) q);
     }
@@ -148,9 +148,9 @@ module _ (old : Table) (rows : List Row) (n : ℕ) (e : rows ≡ vec_items old.r
   old_valid : Valid rows n
   old_valid = subst (Valid rows) (sym f) (subst (λ xs. Valid xs old.count) (sym e) (valid old))
 
-  pub sliding_children : All (λ k. k < i) (children_of r)
+  pub sliding_children : AllByRecursion (λ k. k < i) (children_of r)
   sliding_children =
-      subst (λ q. All (λ k. k < i) (children_of q)) (sym old_row)
+      subst (λ q. AllByRecursion (λ k. k < i) (children_of q)) (sym old_row)
       (children_all i (get_or rows i blank) (old_valid.shaped i h).0 (old_valid.children_below i h))
 
   pub sliding_node : ChildrenMarked (vec_items old.rows) old.count marks → (get_or marks i 0 ≡ 0 → ⊥)

@@ -2,7 +2,7 @@
 use Rattle.std.proofs.Common.{◌≡◌, ℕ, suc, ◌+◌, ◌-◌, ◌<◌, ◌≤◌, ◌⊎◌, List, [], ◌∷◌, ◌++◌, map, length, get_or, take, drop, vec_items, vec_len, sym, refl, ap, ◌∙◌, subst, ap₂, inl, inr, ⊎_elim, add-one, arith}
 use mathlib.Core.List.Memᴰ
 use mathlib.Core.List.{Memᴰ}
-use Rattle.std.specs.List.{AllByRecursion as All}
+use Rattle.std.specs.List.{AllByRecursion}
 use Rattle.std.proofs.lemmas.List.{append_assoc, append-nil, drop_all, drop_more, get_or_append_left, get_or-map, length-drop, length-map, take_at, take-take}
 use Rattle.rewriting.specs.Cards.{Signature}
 use Rattle.rewriting.specs.Places.{forest, places}
@@ -46,7 +46,7 @@ pub record Underway (Σ : Signature) (t : Term) (bindings : List ℕ) (before af
   pub only : (s : Tree) → Memᴰ s added → Subterm s (apply (binding (trees before) bindings) t)
   pub inside : top ≤ length stack
   pub room : i ≤ top
-  pub records : All (λ k. k < after.count) (drop top stack)
+  pub records : AllByRecursion (λ k. k < after.count) (drop top stack)
   pub stacked : stack_trees (trees after) stack top ≡ map (apply (binding (trees before) bindings)) (forest Σ (drop i (places t)))
 
 length_spelled : (Σ : Signature) (ps : List Place) (t : Term) → Spells Σ ps t → length ps ≡ length (places t)
@@ -64,7 +64,7 @@ building_starts Σ ps t sp bindings before stack h =
       only = λ s m. absurd (Memᴰ.not-nil m);
       inside = omega arith;
       room = h;
-      records = subst (All (λ k. k < before.count)) (sym none) tt;
+      records = subst (AllByRecursion (λ k. k < before.count)) (sym none) tt;
       stacked =
           ap (map (tree_at (trees before))) none
           ∙ sym (ap (λ ps. map (apply (binding (trees before) bindings)) (forest Σ ps)) (drop_all (length ps) (places t) (omega (arith, length_spelled Σ ps t sp))));

@@ -2,7 +2,7 @@
 use Rattle.std.proofs.Common.{◌≡◌, ℕ, ◌+◌, ◌<◌, ◌≤◌, List, [], ◌∷◌, ◌++◌, map, length, get_or, take, drop, set, sym, ap, ◌∙◌, subst, ⊎_elim, arith}
 use mathlib.Core.List.Memᴰ
 use mathlib.Core.List.{Memᴰ}
-use Rattle.std.specs.List.{AllByRecursion as All}
+use Rattle.std.specs.List.{AllByRecursion}
 use Rattle.std.proofs.ByRecursion.{All-push}
 use Rattle.std.proofs.lemmas.List.{at_drop_all, at_drop_more, get_or-set_other, get_or-set_same, length-map, length-set, length-take-le, map_push, take_more_set}
 use Rattle.std.proofs.lemmas.Bool.{cases_eq}
@@ -114,7 +114,7 @@ module _ (ts : List Tree) (i : ℕ) (xs : List Tree) (marks order : List ℕ) (n
         marks_long = omega arith;
         order_long = omega arith;
         filled = omega arith;
-        records = subst (All (λ k. k < length ts)) (sym (take_more_set order n i (omega arith))) (All-push (λ k. k < length ts) (take n order) i s.walked.records s.inside);
+        records = subst (AllByRecursion (λ k. k < length ts)) (sym (take_more_set order n i (omega arith))) (All-push (λ k. k < length ts) (take n order) i s.walked.records s.inside);
         distinct = subst Distinct (sym grows) (distinct_push (tree_at ts i) (listed ts order n) s.walked.distinct not_listed);
         children_there = subst ChildrenThere (sym grows) more_children;
         marked = λ k h m.

@@ -2,7 +2,7 @@
 use Rattle.std.specs.Prelude.{◌≡◌, ℕ, ◌+◌, ◌<◌, ◌≤◌, true, List, ◌∷◌, ◌++◌, map, length, take, drop, Some, slice_index}
 use mathlib.Core.List.{Memᴰ}
 use Rattle.std.specs.Option.{unwrap_or}
-use Rattle.std.specs.List.{AllByRecursion as All}
+use Rattle.std.specs.List.{AllByRecursion}
 use Rattle.rewriting.specs.Cards.{Signature, TermOn}
 use Rattle.rewriting.specs.Places.{places}
 use Rattle.rewriting.specs.Terms.{apply, node, occurs, Substitution, Term, Tree}
@@ -61,7 +61,7 @@ Readable Σ n bindings (Variable v) many = (v < length bindings) × (slice_index
 pub record Pushed (before after : Table) (stack stack' : List ℕ) (top new n : ℕ) (t : Tree) : Type 0 where
   pub moved : new + 1 ≡ top + n
   pub added : trees after ≡ add t (trees before)
-  pub records : All (λ k. k < after.count) (drop new stack')
+  pub records : AllByRecursion (λ k. k < after.count) (drop new stack')
   pub stacked : stack_trees (trees after) stack' new ≡ t ∷ drop n (stack_trees (trees before) stack top)
 
 -- the tree t was built, and record k has it: the trees before stand in front, only subterms of t that were not there were

@@ -1,7 +1,7 @@
 -- Roots, the records that a table is asked to keep, and what compaction leaves. Assumes nothing.
 use Rattle.std.specs.Prelude.{◌≡◌, ℕ, ◌<◌, Bool, true, ◌↔◌, List, [], ◌∷◌, map, length, Some, None, Option, ◌≢◌, nat_lt, slice_index, slice_index_or}
 use mathlib.Core.List.{Memᴰ}
-use Rattle.std.specs.List.{AllByRecursion as All}
+use Rattle.std.specs.List.{AllByRecursion}
 use Rattle.rewriting.specs.Terms.{Tree, Trees, nil, cons}
 use Rattle.rewriting.specs.Subterms.{SubtermIn}
 use Rattle.rewriting.specs.Counting.{distinct_count}
@@ -38,7 +38,7 @@ root_trees ts roots = present (held_trees ts roots)
 -- with each marked record its children are marked
 abbrev pub ChildrenMarked : List Row → ℕ → List ℕ → Type 0
 ChildrenMarked rows n marks =
-    (i : ℕ) → i < n → (slice_index marks i ≢ 0) → All (λ k. slice_index marks k ≢ 0) (children_of (slice_index_or rows i blank))
+    (i : ℕ) → i < n → (slice_index marks i ≢ 0) → AllByRecursion (λ k. slice_index marks k ≢ 0) (children_of (slice_index_or rows i blank))
 
 -- records by their new numbers
 abbrev pub renumber : List ℕ → List ℕ → List ℕ

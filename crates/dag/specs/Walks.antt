@@ -1,7 +1,7 @@
 -- What a walk through a node table leaves in the marks and in the order table. Assumes nothing.
 use Rattle.std.specs.Prelude.{◌≡◌, ℕ, ◌<◌, ◌≤◌, List, map, length, take, ◌≢◌, slice_index}
 use mathlib.Core.List.{Memᴰ}
-use Rattle.std.specs.List.{AllByRecursion as All}
+use Rattle.std.specs.List.{AllByRecursion}
 use Rattle.rewriting.specs.Terms.{Tree, children, to_list}
 use Rattle.rewriting.specs.Subterms.{Distinct}
 use Rattle.dag.specs.Trees.{tree_at}
@@ -24,7 +24,7 @@ pub record Walked (ts : List Tree) (marks order : List ℕ) (n : ℕ) : Type 0 w
   pub marks_long : length ts ≤ length marks
   pub order_long : length ts ≤ length order
   pub filled : n ≤ length order
-  pub records : All (λ k. k < length ts) (take n order)
+  pub records : AllByRecursion (λ k. k < length ts) (take n order)
   pub distinct : Distinct (listed ts order n)
   pub children_there : ChildrenThere (listed ts order n)
   pub marked : (k : ℕ) → k < length ts → (slice_index marks k ≢ 0) → Memᴰ (tree_at ts k) (listed ts order n)

@@ -1,6 +1,6 @@
 // Building a term's tree from its places, for recipes and for right sides of rules alike.
 ghost use Rattle.std.specs.Prelude.{◌≡◌, ◌+◌, ◌-◌, ◌<◌, ◌≤◌, ◌∷◌, length, take, drop, MatchOption};
-ghost use Rattle.std.specs.List.{AllByRecursion as All};
+ghost use Rattle.std.specs.List.{AllByRecursion};
 ghost use Rattle.rewriting.specs.Terms.{node};
 ghost use Rattle.card.specs.Records.{side_term};
 ghost use Rattle.dag.specs.Places.{binding, Bound, Built, FewChildren, NoRoom, place_tree, Pushed, Readable, spelled_tree, Spells, stack_trees, taken};
@@ -33,7 +33,7 @@ fn push_symbol(
 ) -> Option<usize>
     requires few { arity ≤ 4 }
     requires room { (0 < top) × (top + arity ≤ length stack.old) }
-    requires records { All (λ k. k < table.old.count) (drop top stack.old) }
+    requires records { AllByRecursion (λ k. k < table.old.count) (drop top stack.old) }
     ensures capacity { capacity table.new ≡ capacity table.old }
     ensures records { KeepsRecords table.old table.new }
     ensures cases { MatchOption result
@@ -59,7 +59,7 @@ fn push_place<S: Signature>(
 ) -> Option<usize>
     requires readable { Readable (S.Signature.arities signature.now) table.old.count bindings.now place (length stack.old - top) }
     requires room { (0 < top) × (top ≤ length stack.old) }
-    requires records { All (λ k. k < table.old.count) (drop top stack.old) }
+    requires records { AllByRecursion (λ k. k < table.old.count) (drop top stack.old) }
     ensures capacity { capacity table.new ≡ capacity table.old }
     ensures records { KeepsRecords table.old table.new }
     ensures cases { MatchOption result

@@ -1,6 +1,6 @@
 // Walking down shared records: the distinct subterms of a record's tree, in sheet order.
 ghost use Rattle.std.specs.Prelude.{◌≡◌, ◌<◌, ◌≤◌, length, take};
-ghost use Rattle.std.specs.List.{AllByRecursion as All};
+ghost use Rattle.std.specs.List.{AllByRecursion};
 ghost use Rattle.rewriting.specs.Subterms.{subterms, walk};
 ghost use Rattle.dag.specs.Tables.{capacity, trees};
 ghost use Rattle.dag.specs.Trees.{tree_at};
@@ -44,7 +44,7 @@ pub fn subterm_records(table: &Table, at: usize, marks: &mut [u8], order: &mut [
     requires clear { Clear marks.old }
     ensures clear { Clear marks.new }
     ensures within { result ≤ table.now.count }
-    ensures records { All (λ k. k < table.now.count) (take result order.new) }
+    ensures records { AllByRecursion (λ k. k < table.now.count) (take result order.new) }
     ensures listed { listed (trees table.now) order.new result ≡ subterms (tree_at (trees table.now) at) }
 {
     let guard = Marks(marks);

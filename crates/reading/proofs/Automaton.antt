@@ -1,6 +1,6 @@
 -- The automaton's steps, by the byte that comes next. Assumes nothing.
 use Rattle.std.proofs.Common.{◌≡◌, ℕ, suc, ◌+◌, ◌<◌, ◌≤◌, true, false, leb, List, [], ◌∷◌, ◌++◌, length, drop, Some, None, Option, sym, refl, ap, ◌∙◌, subst, append_assoc, append-nil, arith, length-append}
-use Rattle.std.specs.List.{AllByRecursion as All}
+use Rattle.std.specs.List.{AllByRecursion}
 use Rattle.std.proofs.lemmas.Bool.{lt-leb, le-leb, true≢false}
 use Rattle.card.specs.Bytes.{letter, filled}
 use Rattle.card.specs.Records.{find_from}
@@ -45,7 +45,7 @@ module _ (G : Grammar) where
   name_goes_on w K acc b bs l h = let f : leb 12 (length w) ≡ false = lt-leb 12 (length w) h in rw (l, scan) (rw f)
 
   -- letters are taken into the name one by one
-  name_takes : (w v K : List ℕ) (acc : List Place) (rest : List ℕ) → All (λ b. letter b ≡ true) v → length w + length v ≤ 12
+  name_takes : (w v K : List ℕ) (acc : List Place) (rest : List ℕ) → AllByRecursion (λ b. letter b ≡ true) v → length w + length v ≤ 12
       → scan G (in_name w K) acc (v ++ rest) ≡ scan G (in_name (w ++ v) K) acc rest
   name_takes w [] K acc rest all h = ap (λ u. scan G (in_name u K) acc rest) (sym (append-nil w))
   name_takes w (b ∷ v) K acc rest all h =
@@ -53,7 +53,7 @@ module _ (G : Grammar) where
       ∙ (name_takes (w ++ (b ∷ [])) v K acc rest all.1 (omega (arith, length-append w (b ∷ [])))
       ∙ ap (λ u. scan G (in_name u K) acc rest) (append_assoc w (b ∷ []) v))
 
-  pub start_takes : (w K : List ℕ) (acc : List Place) (rest : List ℕ) → All (λ b. letter b ≡ true) w → 0 < length w → length w ≤ 12
+  pub start_takes : (w K : List ℕ) (acc : List Place) (rest : List ℕ) → AllByRecursion (λ b. letter b ≡ true) w → 0 < length w → length w ≤ 12
       → leb G.places (length acc) ≡ false → scan G (at_start K) acc (w ++ rest) ≡ scan G (in_name w K) acc rest
   start_takes [] K acc rest all s h f = absurd (omega arith)
   start_takes (b ∷ v) K acc rest all s h f =

@@ -1,6 +1,6 @@
 -- A text that is read to a whole term begins with that term's written form. Assumes nothing.
 use Rattle.std.proofs.Common.{◌≡◌, ℕ, zero, suc, ◌+◌, ◌-◌, ◌<◌, ◌≤◌, max, Bool, true, false, leb, List, [], ◌∷◌, ◌++◌, map, length, get_or, drop, Some, None, Ok, Err, Option, Result, sym, refl, ap, ◌∙◌, subst, ap₂, ⊎_elim, append_assoc, append-nil, arith, length-append, MatchOption}
-use Rattle.std.specs.List.{AllByRecursion as All}
+use Rattle.std.specs.List.{AllByRecursion}
 use Rattle.std.proofs.lemmas.Bool.{leb-true, leb-false, eqb-true, and_parts, or_cases, cases_lt, true≢false}
 use Rattle.std.proofs.lemmas.List.{length-map, map-append}
 use Rattle.rewriting.specs.Terms.{Term, var, app, Terms, nilᵗ, consᵗ, countᵗ, occurs, occurs_in}
@@ -61,7 +61,7 @@ module _ (G : Grammar) where
 
   record NamePeeled (w K : List ℕ) (acc : List Place) (text : List ℕ) (r : Scan) : Type 0 where
     pub letters : List ℕ
-    pub each : All (λ b. letter b ≡ true) letters
+    pub each : AllByRecursion (λ b. letter b ≡ true) letters
     pub few : length (w ++ letters) ≤ 12
     pub back : List ℕ
     pub spelled : text ≡ letters ++ back
@@ -237,7 +237,7 @@ module _ (G : Grammar) where
       }
 
   -- what the card says of the name that was read
-  found_name : (w : List ℕ) (k : ℕ) → All (λ b. letter b ≡ true) w → find_from (filled w) 0 ss ≡ Some k → (k < length ss) × (name_of ss k ≡ w)
+  found_name : (w : List ℕ) (k : ℕ) → AllByRecursion (λ b. letter b ≡ true) w → find_from (filled w) 0 ss ≡ Some k → (k < length ss) × (name_of ss k ≡ w)
   found_name w k all e =
       let f = subst (λ o. MatchOption o ((i : ℕ) → i < length ss → (get_or ss i blank_symbol).name ≡ filled w → ⊥) (λ i. (i < length ss) × ((get_or ss i blank_symbol).name ≡ filled w)))
       e (name_is_found_exactly (filled w) ss) in
@@ -289,7 +289,7 @@ module _ (G : Grammar) where
           (cases_lt (length K) G.brackets)
 
   peel_found : (K : List ℕ) (acc acc' : List Place) (rest : List ℕ) (b : ℕ) (bs w back : List ℕ) → length K ≤ G.brackets → length acc < G.places
-      → All (λ x. letter x ≡ true) (b ∷ w) → bs ≡ w ++ back → (o : Option ℕ) → find_from (filled (b ∷ w)) 0 ss ≡ o
+      → AllByRecursion (λ x. letter x ≡ true) (b ∷ w) → bs ≡ w ++ back → (o : Option ℕ) → find_from (filled (b ∷ w)) 0 ss ≡ o
       → judged G K acc o back ≡ whole acc' rest → HeadPeeled K acc (b ∷ bs) (whole acc' rest)
   peel_found K acc acc' rest b bs w back d room all s None q e = never (sym (judged_unknown G K acc back) ∙ e)
   peel_found K acc acc' rest b bs w back d room all s (Some k) q e =

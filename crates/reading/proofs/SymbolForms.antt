@@ -1,6 +1,6 @@
 -- A symbol line is taken exactly if it is the written form of a symbol that the card lacks. Assumes nothing.
 use Rattle.std.proofs.Common.{◌≡◌, ℕ, ◌+◌, ◌-◌, ◌<◌, ◌≤◌, Bool, true, false, eqb, leb, ◌↔◌, List, [], ◌∷◌, ◌++◌, length, get_or, Some, None, Option, sym, refl, ap, ◌∙◌, subst, ap₂, append_assoc, append-nil, arith, length-append, MatchOption}
-use Rattle.std.specs.List.{AllByRecursion as All}
+use Rattle.std.specs.List.{AllByRecursion}
 use Rattle.std.proofs.lemmas.Bool.{leb-true, leb-false, le-leb, eqb-true, and_parts}
 use Rattle.card.specs.Bytes.{letter, filled}
 use Rattle.card.specs.Records.{find_from, blank_symbol}
@@ -49,7 +49,7 @@ digit_read name (b ∷ bs) s e = go (digit b) refl (leb b 52) refl e
 module _ (ss : List SymbolRecord) where
   record NameRead (w text : List ℕ) (s : SymbolRecord) : Type 0 where
     pub letters : List ℕ
-    pub each : All (λ b. letter b ≡ true) letters
+    pub each : AllByRecursion (λ b. letter b ≡ true) letters
     pub some : 0 < length (w ++ letters)
     pub few : length (w ++ letters) ≤ 12
     pub back : List ℕ

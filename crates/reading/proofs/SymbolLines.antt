@@ -1,6 +1,6 @@
 -- A symbol line, from its name to its digit. Assumes nothing.
 use Rattle.std.proofs.Common.{◌≡◌, ℕ, ◌+◌, ◌<◌, ◌≤◌, true, false, leb, ◌⊎◌, List, [], ◌∷◌, ◌++◌, length, get_or, drop, is_some, Some, None, Option, sym, refl, ap, ◌∙◌, inl, inr, append_assoc, append-nil, arith, length-append}
-use Rattle.std.specs.List.{AllByRecursion as All}
+use Rattle.std.specs.List.{AllByRecursion}
 use Rattle.std.proofs.lemmas.Bool.{lt-leb, le-leb, leb-true, eqb-true, and_parts, true≢false}
 use Rattle.card.specs.Bytes.{letter, filled}
 use Rattle.card.specs.Records.{find_from}
@@ -11,7 +11,7 @@ use Rattle.reading.specs.Sources.{at_letter, next_is, unexpected, NameTaken, Nam
 use Rattle.reading.specs.Lines.{broken, symbol_digit, symbol_new, symbol_slash, symbol_name, symbol_line}
 
 module _ (ss : List SymbolRecord) where
-  pub name_takes : (w v rest : List ℕ) → All (λ b. letter b ≡ true) v → length w + length v ≤ 12 → symbol_name ss w (v ++ rest) ≡ symbol_name ss (w ++ v) rest
+  pub name_takes : (w v rest : List ℕ) → AllByRecursion (λ b. letter b ≡ true) v → length w + length v ≤ 12 → symbol_name ss w (v ++ rest) ≡ symbol_name ss (w ++ v) rest
   name_takes w [] rest all h = ap (λ u. symbol_name ss u rest) (sym (append-nil w))
   name_takes w (b ∷ v) rest all h =
       let f : leb 12 (length w) ≡ false = lt-leb 12 (length w) (omega arith) in
@@ -41,7 +41,7 @@ module _ (ss : List SymbolRecord) where
   slash (x ∷ w) (b ∷ bs) h n = rw (n, symbol_slash) (ap (λ y. symbol_new (find_from (filled (x ∷ w)) 0 ss) (filled (x ∷ w)) y bs) (eqb-true b 47 n))
 
   -- the first byte of a filled name is 0 exactly if the name has no letter
-  first_zero : (w : List ℕ) → All (λ b. letter b ≡ true) w → get_or (filled w) 0 0 ≡ 0 → w ≡ []
+  first_zero : (w : List ℕ) → AllByRecursion (λ b. letter b ≡ true) w → get_or (filled w) 0 0 ≡ 0 → w ≡ []
   first_zero [] all e = refl
   first_zero (x ∷ w) all e = absurd (omega (arith, leb-true 97 x (and_parts (leb 97 x) (leb x 122) all.0).0))
 

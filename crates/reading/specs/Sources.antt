@@ -1,6 +1,6 @@
 -- What a source still has to give. Assumes nothing.
 use Rattle.std.specs.Prelude.{◌≡◌, ℕ, ◌≤◌, Bool, true, false, List, [], ◌∷◌, ◌++◌, length, Some, None, Option, ◌==◌}
-use Rattle.std.specs.List.{AllByRecursion as All}
+use Rattle.std.specs.List.{AllByRecursion}
 use Rattle.card.specs.Bytes.{letter, filled}
 use Rattle.reading.specs.declared.fault.Fault.{Fault}
 use Rattle.reading.specs.declared.fault.Fault.TheVariants.{WrongByte, EarlyEnd}
@@ -30,7 +30,7 @@ pub record Taken (n : ℕ) (held : List ℕ) (before after : List ℕ) : Type 0 
   pub letters : List ℕ
   pub as_many : length letters ≡ n
   pub few : n ≤ 12
-  pub each : All (λ b. letter b ≡ true) letters
+  pub each : AllByRecursion (λ b. letter b ≡ true) letters
   pub spelled : before ≡ letters ++ after
   pub holds : held ≡ filled letters
 

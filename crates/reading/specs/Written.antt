@@ -1,6 +1,6 @@
 -- The written form of a term, and which terms a grammar allows. Assumes nothing.
 use Rattle.std.specs.Prelude.{◌≡◌, ℕ, zero, suc, ◌+◌, ◌<◌, ◌≤◌, max, Bool, true, false, ◌↔◌, List, [], ◌∷◌, ◌++◌, map, length, Some, None, Option, slice_index_or}
-use Rattle.std.specs.List.{AllByRecursion as All}
+use Rattle.std.specs.List.{AllByRecursion}
 use Rattle.rewriting.specs.Terms.{Term, var, app, Terms, nilᵗ, consᵗ, occurs}
 use Rattle.rewriting.specs.Cards.{TermOn}
 use Rattle.rewriting.specs.Places.{places}
@@ -60,7 +60,7 @@ pub record TextOf (G : Grammar) (text : List ℕ) (ps : List Place) : Type 0 whe
 
 -- the symbols of a grammar are those of a card
 pub record ProperSymbols (ss : List SymbolRecord) : Type 0 where
-  pub each : All WellFormedSymbol ss
+  pub each : AllByRecursion WellFormedSymbol ss
   pub distinct : DistinctNames ss
 
 -- LAWS

@@ -1,6 +1,6 @@
 -- A sheet tells its rows, and so its tree. Assumes nothing.
 use Rattle.std.proofs.Common.{◌≡◌, ℕ, suc, ◌+◌, ◌%◌, ◌^◌, ◌<◌, Bool, true, false, ◌&&◌, leb, List, [], ◌∷◌, ◌++◌, length, decimal, sym, refl, ap, ◌∙◌, ap₂, append_assoc, arith}
-use Rattle.std.specs.List.{AllByRecursion as All}
+use Rattle.std.specs.List.{AllByRecursion}
 use Rattle.std.proofs.lemmas.Fmt.{decimal_by_steps, decimal_injective}
 use Rattle.std.proofs.ByRecursion.{All-push}
 use Rattle.std.proofs.lemmas.List.{length_push}
@@ -15,7 +15,7 @@ digit b = leb 48 b && leb b 57
 
 -- a number is digits, at least one
 record Digits (n : ℕ) (ds : List ℕ) : Type 0 where
-  pub each : All (λ b. digit b ≡ true) ds
+  pub each : AllByRecursion (λ b. digit b ≡ true) ds
   pub some : 0 < length ds
 
 is_digit : (k : ℕ) → k < 10 → digit (48 + k) ≡ true
@@ -35,7 +35,7 @@ stops_at_children : (kind : ℕ → Bool) → kind 10 ≡ false → kind 32 ≡ 
 stops_at_children kind ten blank [] rest = ten
 stops_at_children kind ten blank (n ∷ ns) rest = blank
 
-children_same : (ns ms rest rest' : List ℕ) → All (λ n. n < 2 ^ 64) ns → All (λ n. n < 2 ^ 64) ms → child_numbers ns ++ rest ≡ child_numbers ms ++ rest' → (ns ≡ ms) × (rest ≡ rest')
+children_same : (ns ms rest rest' : List ℕ) → AllByRecursion (λ n. n < 2 ^ 64) ns → AllByRecursion (λ n. n < 2 ^ 64) ms → child_numbers ns ++ rest ≡ child_numbers ms ++ rest' → (ns ≡ ms) × (rest ≡ rest')
 children_same [] [] rest rest' a b e = (refl, cc)
 children_same [] (m ∷ ms) rest rest' a b e = let z : ◌≡◌ {A = ℕ} 10 32 = cc in absurd (omega arith)
 children_same (n ∷ ns) [] rest rest' a b e = let z : ◌≡◌ {A = ℕ} 32 10 = cc in absurd (omega arith)
@@ -52,9 +52,9 @@ line_open : (n : ℕ) (name ns rest : List ℕ) → line_text n name ns ++ rest 
 line_open n name ns rest = append_assoc (decimal n) (32 ∷ (name ++ child_numbers ns)) rest ∙ ap (λ x. decimal n ++ (32 ∷ x)) (append_assoc name (child_numbers ns) rest)
 
 abbrev pub Letters : List ℕ → Type 0
-Letters w = All (λ b. letter b ≡ true) w
+Letters w = AllByRecursion (λ b. letter b ≡ true) w
 
-line_same : (n : ℕ) (name name' ns ms rest rest' : List ℕ) → n < 2 ^ 64 → Letters name → Letters name' → All (λ k. k < 2 ^ 64) ns → All (λ k. k < 2 ^ 64) ms
+line_same : (n : ℕ) (name name' ns ms rest rest' : List ℕ) → n < 2 ^ 64 → Letters name → Letters name' → AllByRecursion (λ k. k < 2 ^ 64) ns → AllByRecursion (λ k. k < 2 ^ 64) ms
     → line_text n name ns ++ rest ≡ line_text n name' ms ++ rest' → (name ≡ name') × (ns ≡ ms) × (rest ≡ rest')
 line_same n name name' ns ms rest rest' h a b f g e =
     let d = (decimal_digits n h).each in
@@ -69,7 +69,7 @@ line_same n name name' ns ms rest rest' h a b f g e =
 pub record Plain (names : ℕ → List ℕ) (Known : ℕ → Type 0) (r : Row) : Type 0 where
   pub known : Known r.symbol
   pub letters : Letters (names r.symbol)
-  pub numbers : All (λ k. k < 2 ^ 64) r.children
+  pub numbers : AllByRecursion (λ k. k < 2 ^ 64) r.children
 
 module _ (names : ℕ → List ℕ) (Known : ℕ → Type 0) (apart : (f g : ℕ) → Known f → Known g → names f ≡ names g → f ≡ g) where
   -- no line begins as the trailer does
@@ -79,7 +79,7 @@ module _ (names : ℕ → List ℕ) (Known : ℕ → Type 0) (apart : (f g : ℕ
       let s = split_same digit [] (decimal n) (trailer_text root place) (32 ∷ (name ++ (child_numbers ns ++ rest))) tt d.each refl refl (e ∙ line_open n name ns rest) in
       absurd (omega (arith, ap length s.0, d.some))
 
-  pub rows_same : (rs qs : List Row) (n root place root' place' : ℕ) → n + length rs < 2 ^ 64 → n + length qs < 2 ^ 64 → All (Plain names Known) rs → All (Plain names Known) qs
+  pub rows_same : (rs qs : List Row) (n root place root' place' : ℕ) → n + length rs < 2 ^ 64 → n + length qs < 2 ^ 64 → AllByRecursion (Plain names Known) rs → AllByRecursion (Plain names Known) qs
       → lines_from names n rs ++ trailer_text root place ≡ lines_from names n qs ++ trailer_text root' place' → rs ≡ qs
   rows_same [] [] n root place root' place' h k a b e = refl
   rows_same [] (q ∷ qs) n root place root' place' h k a b e =

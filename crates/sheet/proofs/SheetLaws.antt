@@ -1,6 +1,6 @@
 -- Two trees of a card have the same sheet exactly if they are equal. Assumes nothing.
 use Rattle.std.proofs.Common.{◌≡◌, ℕ, zero, suc, ◌^◌, ◌<◌, ◌≤◌, Bool, true, false, List, [], ◌∷◌, length, get_or, Some, sym, ap, subst, arith}
-use Rattle.std.specs.List.{AllByRecursion as All}
+use Rattle.std.specs.List.{AllByRecursion}
 use Rattle.std.proofs.ByRecursion.{All-get_or, All-from_get_or, All-map}
 use Rattle.std.proofs.lemmas.List.{length-map}
 use Rattle.rewriting.specs.Terms.{Tree, node, Trees, symbol, children, to_list, same}
@@ -41,11 +41,11 @@ place_few t (x ∷ xs) = go (same t x) (place_few t xs)
     go true h = omega arith
     go false h = omega arith
 
-everywhere : {A : Type 0} (P : A → Type 0) → ((x : A) → P x) → (xs : List A) → All P xs
+everywhere : {A : Type 0} (P : A → Type 0) → ((x : A) → P x) → (xs : List A) → AllByRecursion P xs
 everywhere P p [] = tt
 everywhere P p (x ∷ xs) = (p x, everywhere P p xs)
 
-module _ (ss : List SymbolRecord) (each : All WellFormedSymbol ss) where
+module _ (ss : List SymbolRecord) (each : AllByRecursion WellFormedSymbol ss) where
   abbrev Known : ℕ → Type 0
   Known f = f < length ss
 
@@ -58,7 +58,7 @@ module _ (ss : List SymbolRecord) (each : All WellFormedSymbol ss) where
         numbers = All-map (λ k. k < 2 ^ 64) (λ c. suc (place_of c order)) (to_list (children s)) (everywhere (λ c. suc (place_of c order) < 2 ^ 64) (λ c. let p = place_few c order in omega arith) (to_list (children s)));
       }
 
-  rows_plain : (t : Tree) → OnSignature (arities ss) t → length (subterms t) ≤ 4096 → All (Plain (name_of ss) Known) (sheet t)
+  rows_plain : (t : Tree) → OnSignature (arities ss) t → length (subterms t) ≤ 4096 → AllByRecursion (Plain (name_of ss) Known) (sheet t)
   rows_plain t on few =
       All-map (Plain (name_of ss) Known) (row (subterms t)) (subterms t)
       (All-from_get_or (λ s. Plain (name_of ss) Known (row (subterms t) s)) (subterms t) t

@@ -1,6 +1,6 @@
 -- What stands in front of the first byte of another kind. Assumes nothing.
 use Rattle.std.proofs.Common.{◌≡◌, ℕ, Bool, true, false, List, [], ◌∷◌, ◌++◌, sym, refl, ap, ◌∙◌, ap₂}
-use Rattle.std.specs.List.{AllByRecursion as All}
+use Rattle.std.specs.List.{AllByRecursion}
 use Rattle.std.proofs.lemmas.Bool.{true≢false}
 
 -- the text goes on with a byte of another kind
@@ -9,7 +9,7 @@ Stops kind [] = ⊥
 Stops kind (b ∷ bs) = kind b ≡ false
 
 -- bytes of one kind and what stands behind them can be told apart
-pub split_same : (kind : ℕ → Bool) (xs ys rest rest' : List ℕ) → All (λ b. kind b ≡ true) xs → All (λ b. kind b ≡ true) ys → Stops kind rest → Stops kind rest'
+pub split_same : (kind : ℕ → Bool) (xs ys rest rest' : List ℕ) → AllByRecursion (λ b. kind b ≡ true) xs → AllByRecursion (λ b. kind b ≡ true) ys → Stops kind rest → Stops kind rest'
     → xs ++ rest ≡ ys ++ rest' → (xs ≡ ys) × (rest ≡ rest')
 split_same kind [] [] rest rest' a b s s' e = (refl, e)
 split_same kind [] (y ∷ ys) [] rest' a b s s' e = absurd s

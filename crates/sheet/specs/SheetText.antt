@@ -1,6 +1,6 @@
 -- The bytes of a sheet. Assumes nothing.
 use Rattle.std.specs.Prelude.{◌≡◌, ℕ, zero, suc, ◌+◌, ◌≤◌, ◌↔◌, List, [], ◌∷◌, ◌++◌, length, decimal}
-use Rattle.std.specs.List.{AllByRecursion as All}
+use Rattle.std.specs.List.{AllByRecursion}
 use Rattle.rewriting.specs.Terms.{Tree}
 use Rattle.rewriting.specs.Cards.{OnSignature}
 use Rattle.rewriting.specs.Subterms.{Row, subterms, sheet}
@@ -40,6 +40,6 @@ sheet_text names t = lines_from names 1 (sheet t) ++ trailer_text (length (sheet
 -- two trees of a card have the same sheet exactly if they are equal; a store holds no tree with more than 4,096 subterms
 abbrev pub SameSheetSameTree : Type 0
 SameSheetSameTree =
-    (ss : List SymbolRecord) → All WellFormedSymbol ss → DistinctNames ss → (t u : Tree)
+    (ss : List SymbolRecord) → AllByRecursion WellFormedSymbol ss → DistinctNames ss → (t u : Tree)
     → OnSignature (arities ss) t → OnSignature (arities ss) u → length (subterms t) ≤ 4096 → length (subterms u) ≤ 4096
     → (sheet_text (name_of ss) t ≡ sheet_text (name_of ss) u) ↔ (t ≡ u)

@@ -2,7 +2,7 @@
 use Rattle.std.proofs.Common.{◌≡◌, ℕ, ◌<◌, ◌≤◌, List, [], ◌∷◌, ◌++◌, map, length, sym, ap, ◌∙◌, subst, arith, length-append}
 use mathlib.Core.List.Memᴰ
 use mathlib.Core.List.{Memᴰ}
-use Rattle.std.specs.List.{AllByRecursion as All}
+use Rattle.std.specs.List.{AllByRecursion}
 use Rattle.std.proofs.lemmas.List.{length-map}
 use Rattle.rewriting.specs.Terms.{Tree, children, to_list}
 use Rattle.rewriting.specs.Subterms.{Distinct, row, subterms, walks}
@@ -39,12 +39,12 @@ module _ (table : Table) (t : Tree) (order : List ℕ) (listed : trees_at table 
   unfolding listed_text
   sheet_is names = ap (λ xs. lines_from names 1 (map (row xs) xs) ++ trailer_text (length (map (row xs) xs)) (before_last names 1 (map (row xs) xs))) listed
 
-  pub numbered_ready : (numbers : List ℕ) → All (λ k. k < table.count) order → length order ≤ 4096 → table.count ≤ length numbers → NumberedTo (length order) order numbers → Ready table order numbers
+  pub numbered_ready : (numbers : List ℕ) → AllByRecursion (λ k. k < table.count) order → length order ≤ 4096 → table.count ≤ length numbers → NumberedTo (length order) order numbers → Ready table order numbers
   numbered_ready numbers inside few long numbered =
       record {
         inside = inside;
         few = few;
         children_there = subst ChildrenThere (sym listed) (subterms_there t);
         long = long;
-        numbered = all_numbered (trees table) order apart numbers (distinct_trees table) (subst (λ n. All (λ k. k < n) order) (sym (one_tree_each table)) inside) numbered;
+        numbered = all_numbered (trees table) order apart numbers (distinct_trees table) (subst (λ n. AllByRecursion (λ k. k < n) order) (sym (one_tree_each table)) inside) numbered;
       }

@@ -1,7 +1,7 @@
 -- The numbers of listed records are the sheet numbers of their trees. Assumes nothing.
 use Rattle.std.proofs.Common.{◌≡◌, ℕ, zero, suc, ◌+◌, ◌<◌, Bool, true, false, List, [], ◌∷◌, map, length, get_or, set, sym, refl, ap, ◌∙◌, subst, ap₂, arith, below_more}
 use mathlib.Core.List.{Memᴰ}
-use Rattle.std.specs.List.{AllByRecursion as All}
+use Rattle.std.specs.List.{AllByRecursion}
 use Rattle.std.proofs.ByRecursion.{All-get_or}
 use Rattle.std.proofs.lemmas.List.{get_or-map, get_or-set_other, get_or-set_same, length-map}
 use Rattle.std.proofs.lemmas.Bool.{true≢false}
@@ -47,7 +47,7 @@ module _ (ts : List Tree) (order : List ℕ) (apart : Distinct (map (tree_at ts)
       let l = length-map order (tree_at ts) in
       apart blank_tree i j (omega arith) (omega arith) (tree_there i h ∙ (ap (tree_at ts) e ∙ sym (tree_there j k)))
 
-  pub all_numbered : (numbers : List ℕ) → Distinct ts → All (λ k. k < length ts) order → NumberedTo (length order) order numbers → Numbered ts (map (tree_at ts) order) numbers
+  pub all_numbered : (numbers : List ℕ) → Distinct ts → AllByRecursion (λ k. k < length ts) order → NumberedTo (length order) order numbers → Numbered ts (map (tree_at ts) order) numbers
   all_numbered numbers distinct inside e k h m =
       let xs = map (tree_at ts) order in
       let p = mem_place blank_tree m in
@@ -58,13 +58,13 @@ module _ (ts : List Tree) (order : List ℕ) (apart : Distinct (map (tree_at ts)
       omega (arith, place, number)
 
 module _ (ts xs : List Tree) (numbers : List ℕ) (numbered : Numbered ts xs numbers) where
-  renumber_is : (ks : List ℕ) → All (λ k. k < length ts) ks → ((c : Tree) → Memᴰ c (map (tree_at ts) ks) → Memᴰ c xs)
+  renumber_is : (ks : List ℕ) → AllByRecursion (λ k. k < length ts) ks → ((c : Tree) → Memᴰ c (map (tree_at ts) ks) → Memᴰ c xs)
       → renumber numbers ks ≡ map (λ c. suc (place_of c xs)) (map (tree_at ts) ks)
   renumber_is [] h m = refl
   renumber_is (k ∷ ks) h m = ap₂ (λ y ys. y ∷ ys) (numbered k h.0 (m (tree_at ts k) (Memᴰ.head refl))) (renumber_is ks h.1 (λ c p. m c (Memᴰ.tail p)))
 
   -- the numbers of a record's children are those in its row of the sheet
-  pub row_children : (t : Tree) (f : ℕ) (ks : List ℕ) → ChildrenThere xs → Memᴰ t xs → t ≡ tree_over ts f ks → All (λ k. k < length ts) ks
+  pub row_children : (t : Tree) (f : ℕ) (ks : List ℕ) → ChildrenThere xs → Memᴰ t xs → t ≡ tree_over ts f ks → AllByRecursion (λ k. k < length ts) ks
       → renumber numbers ks ≡ (row xs t).children
   row_children t f ks there i e h =
       let kids : to_list (children t) ≡ map (tree_at ts) ks = ap (λ x. to_list (children x)) e ∙ to_list_from_list (map (tree_at ts) ks) in

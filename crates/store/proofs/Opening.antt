@@ -1,6 +1,6 @@
 -- A store that was just opened. Assumes nothing.
 use Rattle.std.proofs.Common.{◌≡◌, ℕ, zero, suc, ◌<◌, ◌≤◌, List, length, get_or, replicate, None, sym, refl, ap, ◌∙◌, subst, arith}
-use Rattle.std.specs.List.{AllByRecursion as All}
+use Rattle.std.specs.List.{AllByRecursion}
 use Rattle.std.proofs.ByRecursion.{All-get_or}
 use Rattle.rewriting.specs.Cards.{Signature}
 use Rattle.rewriting.specs.Counting.{distinct_count}
@@ -12,7 +12,7 @@ use Rattle.store.specs.declared.tins.Tins.{Tins}
 use Rattle.store.specs.Holding.{Fresh, tin_trees}
 use Rattle.store.proofs.Placing.{AllOn}
 
-pub few_arities : (ss : List SymbolRecord) → All WellFormedSymbol ss → (f : ℕ) → f < length ss → (get_or ss f blank_symbol).arity ≤ 4
+pub few_arities : (ss : List SymbolRecord) → AllByRecursion WellFormedSymbol ss → (f : ℕ) → f < length ss → (get_or ss f blank_symbol).arity ≤ 4
 few_arities ss each f h = (All-get_or WellFormedSymbol ss f blank_symbol h each).is.few_children
 
 module _ (t : Tins) (n : ℕ) (fresh : Fresh t n) where

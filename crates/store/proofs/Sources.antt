@@ -1,6 +1,6 @@
 -- The sources of a join one by one. Assumes nothing.
 use Rattle.std.proofs.Common.{◌≡◌, ℕ, ◌+◌, ◌<◌, ◌≤◌, true, false, ◌&&◌, List, [], ◌∷◌, ◌++◌, length, get_or, take, drop, set, is_some, Some, None, Option, unwrap_or, sym, ap, ◌∙◌, subst, ap₂, arith, MatchOption}
-use Rattle.std.specs.List.{AllByRecursion as All}
+use Rattle.std.specs.List.{AllByRecursion}
 use Rattle.std.proofs.lemmas.List.{at_drop_more, get_or-map, length-map, take_more, take_more_set}
 use Rattle.std.proofs.lemmas.Bool.{and_parts, ltb-true, true≢false}
 use Rattle.dag.specs.declared.node.Node.{Node}
@@ -45,7 +45,7 @@ record_more roots sources records i v h k e inv =
 
 -- the tins' records are in use
 pub source_records_used : (roots : List (Option ℕ)) (n : ℕ) (sources : List ℕ) → length roots ≡ 16 → RootsInUse n roots → all_tins sources ≡ true → all_filled roots sources ≡ true
-    → All (λ k. k < n) (source_records roots sources)
+    → AllByRecursion (λ k. k < n) (source_records roots sources)
 source_records_used roots n [] l used tins filled = tt
 source_records_used roots n (tin ∷ sources) l used tins filled =
     let p = and_parts (is_tin tin) (all_tins sources) tins in
@@ -64,6 +64,6 @@ pub node_over_told : (t : Tins) (symbol : ℕ) (sources slice : List ℕ) (r : O
 node_over_told t symbol sources slice None e tins filled h = omega (arith, ap length e, length-map sources (λ tin. unwrap_or (get_or t.roots tin None) 0))
 node_over_told t symbol sources slice (Some n) e tins filled h = (
   children_each t.table.count n.row n.few
-      (subst (All (λ k. k < t.table.count)) (sym (h.1 ∙ e)) (source_records_used t.roots t.table.count sources t.sixteen t.used tins filled)),
+      (subst (AllByRecursion (λ k. k < t.table.count)) (sym (h.1 ∙ e)) (source_records_used t.roots t.table.count sources t.sixteen t.used tins filled)),
   ap₂ (tree_over (trees t.table)) h.0 (h.1 ∙ e),
 )

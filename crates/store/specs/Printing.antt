@@ -1,7 +1,7 @@
 -- The sheet of a tree, from the records of its subterms. Assumes nothing.
 use Rattle.std.specs.Prelude.{◌≡◌, ℕ, suc, ◌+◌, ◌<◌, ◌≤◌, List, ◌++◌, map, length, take, slice_index}
 use mathlib.Core.List.{Memᴰ}
-use Rattle.std.specs.List.{AllByRecursion as All}
+use Rattle.std.specs.List.{AllByRecursion}
 use Rattle.rewriting.specs.Terms.{Tree}
 use Rattle.rewriting.specs.Subterms.{place_of, Row, row}
 use Rattle.sheet.specs.SheetText.{before_last, line_text, lines_from, trailer_text}
@@ -32,7 +32,7 @@ Numbered ts xs numbers = (k : ℕ) → k < length ts → Memᴰ (tree_at ts k) x
 
 -- listed records of a table can be printed: with each tree its children are listed, and all are numbered
 pub record Ready (table : Table) (order numbers : List ℕ) : Type 0 where
-  pub inside : All (λ k. k < table.count) order
+  pub inside : AllByRecursion (λ k. k < table.count) order
   pub few : length order ≤ 4096
   pub children_there : ChildrenThere (trees_at table order)
   pub long : table.count ≤ length numbers

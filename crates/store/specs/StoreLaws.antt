@@ -1,7 +1,7 @@
 -- Laws of every store. Assumes nothing.
 use Rattle.std.specs.Prelude.{◌≡◌, ℕ, true, ◌↔◌, List, Ok}
 use mathlib.Core.List.{Memᴰ}
-use Rattle.std.specs.List.{AllByRecursion as All}
+use Rattle.std.specs.List.{AllByRecursion}
 use Rattle.rewriting.specs.Terms.{Tree}
 use Rattle.rewriting.specs.Subterms.{Distinct, SubtermIn}
 use Rattle.card.specs.Records.{DistinctNames, WellFormedSymbol}
@@ -19,6 +19,6 @@ OneRecordForEachSubterm =
 -- two tins have the same sheet, byte by byte, exactly if they hold equal trees
 abbrev pub SameSheetsSameTrees : Type 0
 SameSheetsSameTrees =
-    (s : Store) → All WellFormedSymbol (symbols_of s) → DistinctNames (symbols_of s) → (left right room room' : ℕ) (x y : List ℕ)
+    (s : Store) → AllByRecursion WellFormedSymbol (symbols_of s) → DistinctNames (symbols_of s) → (left right room room' : ℕ) (x y : List ℕ)
     → sheet_result (symbols_of s) (trees_of s) left room ≡ Ok x → sheet_result (symbols_of s) (trees_of s) right room' ≡ Ok y
     → (x ≡ y) ↔ (same_result (trees_of s) left right ≡ Ok true)

@@ -1,6 +1,6 @@
 // Nodes over records that got new numbers.
 ghost use Rattle.std.specs.Prelude.{◌≡◌, ◌<◌, length, slice_index};
-ghost use Rattle.std.specs.List.{AllByRecursion as All};
+ghost use Rattle.std.specs.List.{AllByRecursion};
 ghost use Rattle.dag.specs.Roots.{renumber};
 ghost use Rattle.dag.specs.Rows.{children_of};
 
@@ -10,7 +10,7 @@ use crate::row::Row;
 impl Node {
     // The new number of a child, or 0 in a place that is not used.
     fn renumbered_child(self, place: usize, numbers: &[u16]) -> u16
-        requires { All (λ k. k < length numbers.now) (children_of self.row) }
+        requires { AllByRecursion (λ k. k < length numbers.now) (children_of self.row) }
         ensures { result ≡ slice_index (renumber numbers.now (children_of self.row)) place }
     {
         if place < self.arity() {
@@ -22,7 +22,7 @@ impl Node {
 
     // The node of the same symbol over the same children by their new numbers.
     pub fn renumbered(self, numbers: &[u16]) -> Node
-        requires { All (λ k. k < length numbers.now) (children_of self.row) }
+        requires { AllByRecursion (λ k. k < length numbers.now) (children_of self.row) }
         ensures symbol { result.row.symbol ≡ self.row.symbol }
         ensures children { children_of result.row ≡ renumber numbers.now (children_of self.row) }
     {

@@ -1,6 +1,6 @@
 // Writing the sheet of a record's tree.
 ghost use Rattle.std.specs.Prelude.{◌≡◌, ◌+◌, ◌*◌, ◌<◌, ◌≤◌, ◌++◌, length, take, drop, MatchOption, slice_index_or};
-ghost use Rattle.std.specs.List.{AllByRecursion as All};
+ghost use Rattle.std.specs.List.{AllByRecursion};
 ghost use Rattle.card.specs.Records.{blank_symbol, name_of};
 ghost use Rattle.dag.specs.Tables.{capacity, trees};
 ghost use Rattle.dag.specs.Trees.{tree_at};
@@ -20,7 +20,7 @@ use sheet::trailer::trailer;
 
 // Gives each listed record its place in the list, from 1 on.
 fn number_records(order: &[u16], numbers: &mut [u16])
-    requires inside { All (λ k. k < length numbers.old) order.now }
+    requires inside { AllByRecursion (λ k. k < length numbers.old) order.now }
     requires once { ListedOnce order.now }
     requires few { length order.now ≤ 4096 }
     ensures { NumberedTo (length order.now) order.now numbers.new }

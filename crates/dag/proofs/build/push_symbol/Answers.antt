@@ -1,5 +1,5 @@
 use Rattle.std.proofs.Common.{◌+◌, ◌-◌, ◌<◌, drop, sym, subst}
-use Rattle.std.specs.List.{AllByRecursion as All}
+use Rattle.std.specs.List.{AllByRecursion}
 use Rattle.std.proofs.ByRecursion.{All-take}
 use Rattle.dag.specs.Tables.{Full, Interned}
 use Rattle.dag.proofs.Shapes.{children_each}
@@ -12,7 +12,7 @@ intern-requires c =
     let ks = drop c.args.top c.args.stack.now in
     let count = c.args.table.now.count in
     children_each count n.row n.few
-    (subst (All (λ k. k < count)) (sym c.in_ok-node.ensures.1) (All-take (λ k. k < count) ((c.args.top + c.args.arity) - c.args.top) ks c.requires.records))
+    (subst (AllByRecursion (λ k. k < count)) (sym c.in_ok-node.ensures.1) (All-take (λ k. k < count) ((c.args.top + c.args.arity) - c.args.top) ks c.requires.records))
 
 pub returns-in_default : goal.returns-in_default
 returns-in_default c =

@@ -1,5 +1,5 @@
 use Rattle.std.proofs.Common.{◌<◌, take, subst, arith}
-use Rattle.std.specs.List.{AllByRecursion as All}
+use Rattle.std.specs.List.{AllByRecursion}
 use Rattle.dag.proofs.Invariant.{one_tree_each}
 use Rattle.dag.proofs.Visiting.{walk_starts, walked_few}
 use Rattle.dag.proofs.walk.subterm_records.Goals as goal
@@ -19,6 +19,6 @@ returns c =
     record {
       clear = c.drop-guard.ensures;
       within = omega (arith, one_tree_each t, walked_few _ _ _ _ w);
-      records = subst (λ n. All (λ k. k < n) (take c.visit.result c.visit.new.order)) (one_tree_each t) w.records;
+      records = subst (λ n. AllByRecursion (λ k. k < n) (take c.visit.result c.visit.new.order)) (one_tree_each t) w.records;
       listed = c.visit.ensures.listed;
     }

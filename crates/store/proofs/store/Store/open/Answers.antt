@@ -1,6 +1,6 @@
 use Rattle.std.proofs.Common.{◌-◌, ◌≤◌, length, take, vec_len, sym, refl, subst, arith, length-take}
 use native.Mathlib.Nat.{sub-zero}
-use Rattle.std.specs.List.{AllByRecursion as All}
+use Rattle.std.specs.List.{AllByRecursion}
 use Rattle.card.specs.Records.{arities, WellFormedSymbol}
 use Rattle.store.proofs.Opening.{few_arities, fresh_compact, fresh_on}
 use Rattle.store.proofs.store.Store.open.Goals as goal
@@ -13,7 +13,7 @@ invariant_of-result c =
     let n = c.args.card.symbols in
     let ss = c.args.symbols.now in
     let many : length (take (n - 0) ss) ≤ 64 = omega (arith, length-take (n - 0) ss) in
-    let each : All WellFormedSymbol (take (n - 0) ss) = subst (λ k. All WellFormedSymbol (take k ss)) (sym (sub-zero n)) kept.keeps.each_symbol in
+    let each : AllByRecursion WellFormedSymbol (take (n - 0) ss) = subst (λ k. AllByRecursion WellFormedSymbol (take k ss)) (sym (sub-zero n)) kept.keeps.each_symbol in
     record {
       many = many;
       few = few_arities (take (n - 0) ss) each;

@@ -1,5 +1,5 @@
 use Rattle.std.proofs.Common.{◌≡◌, ◌+◌, ◌<◌, length, get_or, sym, ap, ◌∙◌, subst, ap₂, arith}
-use Rattle.std.specs.List.{AllByRecursion as All}
+use Rattle.std.specs.List.{AllByRecursion}
 use Rattle.std.proofs.ByRecursion.{All-get_or, All-weaker}
 use Rattle.card.specs.Bytes.{letters_of}
 use Rattle.card.specs.Records.{name_of}
@@ -27,7 +27,7 @@ returns c =
     let k = get_or c.args.order.now c.args.place 0 in
     let n = c.node.result.row in
     let is = c.node.ensures.same.1 in
-    let kids = subst (λ m. All (λ x. x < m) (children_of n)) (sym (one_tree_each table)) (children_all table.count n c.node.result.few c.node.ensures.over) in
+    let kids = subst (λ m. AllByRecursion (λ x. x < m) (children_of n)) (sym (one_tree_each table)) (children_all table.count n c.node.result.few c.node.ensures.over) in
     let named : letters_of c.name_at.result ≡ name_of c.args.symbols.now (symbol (tree_at (trees table) k)) =
     ap letters_of c.name_at.ensures ∙ ap (name_of c.args.symbols.now) (ap (λ r. r.symbol) c.to_row-row.ensures ∙ (c.renumbered.ensures.symbol ∙ sym (ap symbol is))) in
     let numbered = ap children_of c.to_row-row.ensures ∙ (c.renumbered.ensures.children

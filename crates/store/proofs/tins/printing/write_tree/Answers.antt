@@ -1,6 +1,6 @@
 use Rattle.std.proofs.Common.{◌≡◌, ℕ, ◌-◌, ◌<◌, ◌≤◌, List, length, take, sym, ap, ◌∙◌, subst, arith, length-take, MatchOption}
 use native.Mathlib.Nat.{sub-zero}
-use Rattle.std.specs.List.{AllByRecursion as All}
+use Rattle.std.specs.List.{AllByRecursion}
 use Rattle.std.proofs.ByRecursion.{All-weaker}
 use Rattle.card.specs.Records.{name_of}
 use Rattle.rewriting.specs.Subterms.{subterms}
@@ -20,8 +20,8 @@ module _ (c : After-subterm_records-count) where
   cut : order ≡ take c.subterm_records-count.result c.subterm_records-count.new.order
   cut = ap (λ n. take n c.subterm_records-count.new.order) (sub-zero c.subterm_records-count.result)
 
-  inside : All (λ k. k < c.args.table.now.count) order
-  inside = subst (All (λ k. k < c.args.table.now.count)) (sym cut) c.subterm_records-count.ensures.records
+  inside : AllByRecursion (λ k. k < c.args.table.now.count) order
+  inside = subst (AllByRecursion (λ k. k < c.args.table.now.count)) (sym cut) c.subterm_records-count.ensures.records
 
   listed : trees_at c.args.table.now order ≡ subterms (tree_at (trees c.args.table.now) c.args.at)
   listed = ap (trees_at c.args.table.now) cut ∙ c.subterm_records-count.ensures.listed
