@@ -1,5 +1,5 @@
 // The two phases of a draft.
-ghost use Rattle.std.specs.Prelude.{◌≡◌, ℕ, ◌+◌, List, length, take, replicate, MatchResult, nat_le};
+ghost use Rattle.std.specs.Prelude.{◌≡◌, ℕ, ◌+◌, ◌<◌, List, length, take, replicate, MatchResult, nat_le};
 ghost use Rattle.card.specs.Records.{blank_rule, blank_symbol, Kept};
 ghost use Rattle.card.specs.declared.refusal.Refusal.TheVariants.{BrokenTable};
 ghost use Rattle.draft.specs.Drafts.{counts, Refused, RuleTaken, SymbolTaken};
@@ -24,10 +24,11 @@ pub struct RuleDraft {
     rules: usize,
 }
 
-// Nobody can show what letting a draft go asks for.
+// Letting a draft go asks for more symbols than a card has. No call leaves a draft so, and nobody can show it of one: each
+// call that makes a draft or counts a symbol tests that there are at most 64.
 impl Drop for SymbolDraft {
     fn drop(self)
-        requires { ⊥ }
+        requires { 64 < self.symbols }
     {
         let SymbolDraft { symbols: _ } = self;
     }
@@ -35,7 +36,7 @@ impl Drop for SymbolDraft {
 
 impl Drop for RuleDraft {
     fn drop(self)
-        requires { ⊥ }
+        requires { 64 < self.symbols }
     {
         let RuleDraft {
             symbols: _,
