@@ -8,28 +8,29 @@ trap 'rm -rf "$work"' EXIT
 
 mkdir -p "$work/crates/late/src"
 for crate in rewriting card reading draft; do
-    cp -R "crates/$crate" "$work/crates/$crate"
+    mkdir "$work/crates/$crate"
+    cp -R "crates/$crate/src" "crates/$crate/specs" "crates/$crate/proofs" "$work/crates/$crate/"
     grep "^$crate:" crates.txt >>"$work/crates.txt"
 done
-echo 'late: draft reading card' >>"$work/crates.txt"
-echo 'ended' >"$work/crates/late/stdout"
+echo 'late: draft reading card anyhow' >>"$work/crates.txt"
 
 # Tells whether the program with this line compiles and runs.
 runs_with() {
     LINE=$1 awk '$1 == "LINE" { print ENVIRON["LINE"]; next } { print }' tests/late_symbol.txt >"$work/crates/late/src/main.rt"
-    (cd "$work" && rt try late >"$work/log" 2>&1)
+    (cd "$work/crates/late" && rt try >"$work/log" 2>&1)
 }
 
+# The program with this line is turned down for this reason.
 refused() {
-    if runs_with "$1"; then
-        echo "late_symbol: taken, and should not be: $1"
+    if runs_with "$2"; then
+        echo "late_symbol: taken, and should not be: $2"
         exit 1
     fi
-    grep -q 'the front end rejected the crate' "$work/log"
-    echo "late_symbol: refused by the compiler, as it must be: $1"
+    grep -qF "error[$1]" "$work/log"
+    echo "late_symbol: refused by the compiler, as it must be: $2"
 }
 
 runs_with 'let _ = ended.take(&symbols, &mut rules, &mut Line::new(b"mix(A,A)=A"));'
 echo 'late_symbol: a rule line is taken there'
-refused 'let _ = SymbolDraft::take(&mut ended, &mut symbols, &rules, &mut Line::new(b"assam/0"));'
-refused 'let _ = draft.take(&mut symbols, &rules, &mut Line::new(b"assam/0"));'
+refused mismatched-types 'let _ = SymbolDraft::take(&mut ended, &mut symbols, &rules, &mut Line::new(b"assam/0"));'
+refused borrow-e0382 'let _ = draft.take(&mut symbols, &rules, &mut Line::new(b"assam/0"));'

@@ -5,7 +5,9 @@ snake case, statements and types in camel case, an apostrophe for a prime. To be
 A name counts as the repository's own if it stands in a file of specs/ or in a lemma file of proofs/ (outside comments) and no file
 imports it from a library of the kit. In the proofs of functions (folders below proofs/) names that Rattle makes keep their dashes:
 goals and steps, that is what follows `c.`, `w.` or `l.` directly, and what a file takes from its Goals or Given module.
-Code, comments and strings are left alone: of a .rt file only ghost lines, clauses and ghost fields are read.
+Code, comments and strings are left alone: of a .rt file only ghost lines, clauses and ghost fields are read. There the local names
+of ghost imports are respelled as well. Where port.py brought a word of the kit under the name of another one, as
+`AllByRecursion as All`, which the gate refuses, the word itself is written.
 It prints names that would fall together with one that is there already, and then changes nothing.
 """
 import glob
@@ -13,7 +15,8 @@ import re
 import sys
 
 TOKEN = re.compile(r"(?<![\w'′-])[^\W\d][\w'′]*(?:-[\w'′]+)*")
-KIT = re.compile(r"(?:^|\s)use\s+(?:Rattle\.(?:std|core)\.|logic\.|antt\.)[^;\n{]*\{([^}]*)\}", re.S)
+KIT = re.compile(r"(?:^|\s)use\s+(?:Rattle\.(?:std|core)|lib|mathlib|Prim|denote)\.[^;\n{]*\{([^}]*)\}", re.S)
+KIT_MEMBER = re.compile(r"Memᴰ\.([\w'-]+)")
 MADE = re.compile(r"^(?:returns|in|if|then|else|loop|invariant|decreases|bounds|overflow|index|offset|ensures|from_residual|ghost)-|-(?:requires|index|preserved|init|test)(?:-\d+)?$|^field-\d+$")
 
 
@@ -47,6 +50,21 @@ def answer_files():
     return sorted(set(glob.glob("crates/*/proofs/**/*.antt", recursive=True)) - set(glob.glob("crates/*/proofs/*.antt")))
 
 
+def source_files():
+    return sorted(glob.glob("crates/*/src/**/*.rt", recursive=True))
+
+
+def spelled_out(text, comment):
+    if "AllByRecursion as All" not in text:
+        return text
+    text = text.replace("AllByRecursion as All", "AllByRecursion")
+    lines = text.split("\n")
+    for i, line in enumerate(lines):
+        if not line.strip().startswith(comment):
+            lines[i] = re.sub(r"(?<![\w'.-])All(?![\w'-])", "AllByRecursion", line)
+    return "\n".join(lines)
+
+
 def code_of(text, comment="--"):
     return "".join(t if live else " " for live, t in pieces(text, comment))
 
@@ -57,8 +75,12 @@ def names():
         code = code_of(open(path).read())
         for group in KIT.findall(code):
             kit.update(TOKEN.findall(re.sub(r"\bas\s+\S+", "", group)))
+        kit.update(KIT_MEMBER.findall(code))
     for path in lemma_files():
         found.update(t for t in TOKEN.findall(code_of(open(path).read())) if own(t))
+    for path in source_files():
+        for use in re.findall(r"\bghost use [^;]*;", open(path).read()):
+            found.update(t for t in re.findall(r"\bas\s+([\w'-]+)", use) if own(t))
     return {t for t in found if t not in kit}
 
 
@@ -66,7 +88,7 @@ def ghost_spans(code):
     """Where a .rt file speaks antt: ghost use lines, clauses and ghost items."""
     for m in re.finditer(r"\bghost use [^;]*;", code):
         yield m.span()
-    for m in re.finditer(r"\b(?:requires|ensures|ghost)\b\*?(?:\s+\w+)?\s*:?\s*\{", code):
+    for m in re.finditer(r"\b(?:requires|ensures|ghost)\b\*?(?:\s+\w+)?\s*[:=]?\s*\{", code):
         depth, i = 1, m.end()
         while depth and i < len(code):
             depth += {"{": 1, "}": -1}.get(code[i], 0)
@@ -121,10 +143,10 @@ def main():
             parts = [turn_answers(text, table)]
         else:
             parts = [turn(t, table) if live else t for live, t in pieces(text, "--")]
-        new = "".join(parts)
+        new = spelled_out("".join(parts), "--")
         if new != text:
             open(path, "w").write(new)
-    for path in sorted(glob.glob("crates/*/src/**/*.rt", recursive=True)):
+    for path in source_files():
         text = open(path).read()
         blanked = "".join(t if live else " " * len(t) for live, t in pieces(text, "//"))
         new, at = [], 0
@@ -133,7 +155,7 @@ def main():
                 continue
             new += [text[at:start], turn(text[start:end], table)]
             at = end
-        new = "".join(new + [text[at:]])
+        new = spelled_out("".join(new + [text[at:]]), "//")
         if new != text:
             open(path, "w").write(new)
     print(len(table), "names respelled")
