@@ -15,7 +15,7 @@ import re
 import sys
 
 TOKEN = re.compile(r"(?<![\w'′-])[^\W\d][\w'′]*(?:-[\w'′]+)*")
-KIT = re.compile(r"(?:^|\s)use\s+(?:Rattle\.(?:std|core)|lib|mathlib|Prim|denote)\.[^;\n{]*\{([^}]*)\}", re.S)
+KIT = re.compile(r"(?:^|\s)use\s+(?:Rattle\.(?:std|core)|lib|mathlib|native|Prim|denote)\.[^;\n{]*\{([^}]*)\}", re.S)
 KIT_MEMBER = re.compile(r"Memᴰ\.([\w'-]+)")
 MADE = re.compile(r"^(?:returns|in|if|then|else|loop|invariant|decreases|bounds|overflow|index|offset|ensures|from_residual|ghost)-|-(?:requires|index|preserved|init|test)(?:-\d+)?$|^field-\d+$")
 
