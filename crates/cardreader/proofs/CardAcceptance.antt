@@ -112,7 +112,7 @@ symbols_accepted ((b ∷ bs) ∷ ls) (s ∷ symbols) rules ss m rs k proper few_
     let all : take m ss ++ (s ∷ symbols) ≡ take (suc m) (set ss m s) ++ symbols = sym (ap (λ x. x ++ symbols) front ∙ append_assoc (take m ss) (s ∷ []) symbols) in
     let far : suc m + length symbols ≡ m + suc (length symbols) = omega arith in
     symbol_goes_on ss m rs k (b ∷ bs) ls (omega arith) (symbol_lacks_equals (b ∷ bs) s w.0) s
-    (symbol_forms.written_taken (take m ss) (b ∷ bs) s room w.0 (symbol_lacked ss m rs k (omega arith) long_symbols s symbols proper.distinct))
+    (symbol_forms.spelled_taken (take m ss) (b ∷ bs) s room w.0 (symbol_lacked ss m rs k (omega arith) long_symbols s symbols proper.distinct))
     ∙ (symbols_accepted ls symbols rules (set ss m s) (suc m) rs (suc k) (subst ProperSymbols all proper) (omega arith) few_rules (omega (arith, length-set ss m s)) long_rules w.1
     (subst (λ x. LineByLine (RuleWritten x) (drop (length symbols) (with_bytes ls)) rules) all v)
     ∙ ap₂ (λ i x. accepted (counts i (length rules)) x (rules ++ drop (length rules) rs)) far (grown ss m s symbols (omega arith)))

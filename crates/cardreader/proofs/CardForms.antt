@@ -120,7 +120,7 @@ symbol_stated_first : (line : List ℕ) (ls : List (List ℕ)) (ss : List Symbol
     → (Kept (set ss m s) rs (counts (suc m) 0) → SymbolsStated ls (set ss m s) (suc m) rs c ss' rs')
     → SymbolsStated (line ∷ ls) ss m rs c ss' rs'
 symbol_stated_first line ls ss m rs c ss' rs' s kept q bytes rest =
-    let w = symbol_forms.symbol_taken (take m ss) line s q in
+    let w = symbol_forms.symbol_read (take m ss) line s q in
     let long = kept.symbols_long in
     let few = kept.few_symbols in
     let room : m < length ss = omega (arith, w.0, length-take-le m ss (omega arith)) in

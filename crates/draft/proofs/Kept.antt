@@ -8,7 +8,7 @@ use Rattle.card.specs.Bytes.{filled}
 use Rattle.card.specs.Records.{Kept, KeepsRules, WellFormedSymbol, WellFormedRule, DistinctNames, arities, blank_symbol}
 use Rattle.card.specs.declared.record.SymbolRecord.{SymbolRecord}
 use Rattle.card.specs.declared.record.RuleRecord.{RuleRecord}
-use Rattle.reading.proofs.SymbolForms.{symbol_taken}
+use Rattle.reading.proofs.SymbolForms.{symbol_read}
 use Rattle.reading.proofs.RuleForms.{rule_taken}
 use Rattle.draft.specs.Drafts.{counts, SymbolTaken, RuleTaken}
 
@@ -28,7 +28,7 @@ symbol_keeps m text rs before after t =
     let k = t.kept in
     let long = k.symbols_long in
     let few = k.few_symbols in
-    let w = symbol_taken (take m before) text t.symbol t.line in
+    let w = symbol_read (take m before) text t.symbol t.line in
     let n : length (take m before) ≡ m = length-take-le m before (omega arith) in
     let room : m < 64 = omega (arith, w.0) in
     let f = w.1 in

@@ -116,8 +116,8 @@ module _ (ss : List SymbolRecord) where
       subst (λ o. MatchOption o ((i : ℕ) → i < length ss → (get_or ss i blank_symbol).name ≡ bytes → ⊥) (λ i. (i < length ss) × ((get_or ss i blank_symbol).name ≡ bytes)))
       e (name_is_found_exactly bytes ss)
 
-  pub symbol_taken : (text : List ℕ) (s : SymbolRecord) → symbol_line ss text ≡ taken s → (length ss < 64) × SymbolSpelled text s × Lacks ss s
-  symbol_taken text s e = go (leb 64 (length ss)) refl e
+  pub symbol_read : (text : List ℕ) (s : SymbolRecord) → symbol_line ss text ≡ taken s → (length ss < 64) × SymbolSpelled text s × Lacks ss s
+  symbol_read text s e = go (leb 64 (length ss)) refl e
     where
       go : (x : Bool) → leb 64 (length ss) ≡ x
           → elim x as (λ q. Line SymbolRecord) [ true ↦ broken TooManyLines text | false ↦ symbol_name ss [] text ] ≡ taken s
@@ -153,8 +153,8 @@ module _ (ss : List SymbolRecord) where
       let back : 48 + a - 48 ≡ a = omega arith in
       rw (lo, symbol_digit) (rw hi (rw four (ap (λ n. taken (record { name = name; arity = n })) back)))
 
-  pub written_taken : (text : List ℕ) (s : SymbolRecord) → length ss < 64 → SymbolSpelled text s → Lacks ss s → symbol_line ss text ≡ taken s
-  written_taken text s room t new =
+  pub spelled_taken : (text : List ℕ) (s : SymbolRecord) → length ss < 64 → SymbolSpelled text s → Lacks ss s → symbol_line ss text ≡ taken s
+  spelled_taken text s room t new =
       let w = t.name in
       let rest = 47 ∷ (48 + t.arity) ∷ [] in
       open_line ss room text []
@@ -190,8 +190,11 @@ spelled_part ss text s w = record {
 pub lacks_part : (ss : List SymbolRecord) (text : List ℕ) (s : SymbolRecord) → SymbolWritten ss text s → Lacks ss s
 lacks_part ss text s w i h e = w.new i h (e ∙ ap (λ (x : SymbolRecord). x.name) w.record_is)
 
+pub symbol_taken : (ss : List SymbolRecord) (text : List ℕ) (s : SymbolRecord) → symbol_line ss text ≡ taken s → (length ss < 64) × SymbolWritten ss text s
+symbol_taken ss text s e = let t = symbol_read ss text s e in (t.0, both_parts ss text s t.1 t.2)
+
+pub written_taken : (ss : List SymbolRecord) (text : List ℕ) (s : SymbolRecord) → length ss < 64 → SymbolWritten ss text s → symbol_line ss text ≡ taken s
+written_taken ss text s room w = spelled_taken ss text s room (spelled_part ss text s w) (lacks_part ss text s w)
+
 pub symbol_exactly : (ss : List SymbolRecord) (text : List ℕ) (s : SymbolRecord) → (symbol_line ss text ≡ taken s) ↔ ((length ss < 64) × SymbolWritten ss text s)
-symbol_exactly ss text s = (
-  λ e. let t = symbol_taken ss text s e in (t.0, both_parts ss text s t.1 t.2),
-  λ t. written_taken ss text s t.0 (spelled_part ss text s t.1) (lacks_part ss text s t.1),
-)
+symbol_exactly ss text s = (symbol_taken ss text s, λ t. written_taken ss text s t.0 t.1)
