@@ -46,7 +46,7 @@ unfolding behind
 behind_none zero = refl
 behind_none (suc i) = refl
 
--- the claim of `line-of-behind` at one text
+-- the claim of `line_of_behind` at one text
 abbrev LineOf : List ℕ → Type 0
 LineOf text = (n : Bool) (i : ℕ) → line_at i (cleaned_behind n text) ≡ cleaned_behind (behind n i) (line_at i text)
 
