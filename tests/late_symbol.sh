@@ -30,7 +30,11 @@ refused() {
     echo "late_symbol: refused by the compiler, as it must be: $2"
 }
 
-runs_with 'let _ = ended.take(&symbols, &mut rules, &mut Line::new(b"mix(A,A)=A"));'
+if ! runs_with 'let _ = ended.take(&symbols, &mut rules, &mut Line::new(b"mix(A,A)=A"));'; then
+    echo 'late_symbol: the program with a rule line does not run'
+    cat "$work/log"
+    exit 1
+fi
 echo 'late_symbol: a rule line is taken there'
 refused mismatched-types 'let _ = SymbolDraft::take(&mut ended, &mut symbols, &rules, &mut Line::new(b"assam/0"));'
 refused borrow-e0382 'let _ = draft.take(&mut symbols, &rules, &mut Line::new(b"assam/0"));'
