@@ -24,8 +24,8 @@ pub struct RuleDraft {
     rules: usize,
 }
 
-// Letting a draft go asks for more symbols than a card has. No call leaves a draft so, and nobody can show it of one: each
-// call that makes a draft or counts a symbol tests that there are at most 64.
+// Letting a draft go asks for more symbols than a card has. No call leaves a draft so, and nobody can show it of one: a draft
+// starts with no symbol, and a symbol is counted only where there are fewer than 64.
 impl Drop for SymbolDraft {
     fn drop(self)
         requires { 64 < self.symbols }
