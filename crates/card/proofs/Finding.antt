@@ -1,12 +1,16 @@
 -- Finding a symbol by its name. Assumes nothing.
-use Rattle.std.proofs.Common.{◌≡◌, ℕ, zero, suc, ◌+◌, ◌<◌, Bool, true, false, ◌⊎◌, List, [], ◌∷◌, length, get_or, drop, Some, None, Decides, Option, sym, refl, ap, ◌∙◌, subst, inl, inr, add-one, arith, MatchOption}
-use Rattle.std.proofs.lemmas.List.{at_drop_more, get_or_default}
-use Rattle.std.proofs.lemmas.Bool.{cases_order, true≢false}
+use Rattle.std.proofs.Common.{◌≡◌, ℕ, zero, suc, ◌+◌, ◌<◌, Bool, true, false, eqb, ◌⊎◌, List, [], ◌∷◌, length, get_or, Some, None, Decides, Option, sym, refl, ap, ◌∙◌, inl, inr, add-one, arith, MatchOption}
+use Rattle.std.proofs.Math.Bool.{cond}
+use Rattle.std.specs.List.{enumerate_from, list_all, position, position_from}
+use Rattle.std.specs.Option.{option_eq}
+use Rattle.std.proofs.lemmas.Iterator.Adapters.{position_from-zero}
+use Rattle.std.proofs.lemmas.Bool.{and_from, and_parts, cases_order}
 use Rattle.std.proofs.lemmas.Bool.Decides.{not_from_Decides}
 use Rattle.card.specs.declared.record.SymbolRecord.{SymbolRecord}
 use Rattle.card.specs.Bytes.{same_bytes}
 use Rattle.card.specs.Records.{blank_symbol, DistinctNames, find_from}
 use Rattle.card.proofs.Naming.{same_bytes_decides}
+use Rattle.card.proofs.Tables.{equals_some}
 
 abbrev pub name_at : List SymbolRecord → ℕ → List ℕ
 name_at ss i = (get_or ss i blank_symbol).name
@@ -69,28 +73,48 @@ found_from_distinct ss d k l = go (find_from (name_at ss k) 0 ss) (name_is_found
         at (inr (inl b)) = absurd (d i k b l h.1)
         at (inr (inr b)) = absurd (d k i b h.0 (sym h.1))
 
-pub not_distinct : (ss : List SymbolRecord) (i : ℕ) (d : SymbolRecord) → i < length ss
-    → (find_from (get_or ss i d).name 0 ss ≡ Some i → ⊥) → Decides false (DistinctNames ss)
-not_distinct ss i d more elsewhere = (
-  λ e. absurd (true≢false (sym e)),
-  λ h. absurd (elsewhere (subst (λ s. find_from s.name 0 ss ≡ Some i) (get_or_default ss i blank_symbol d more) (found_from_distinct ss h i more))),
+find_from_numbered : (bytes : List ℕ) (i : ℕ) (ss : List SymbolRecord)
+    → find_from bytes i ss ≡ position_from (λ s. same_bytes s.name bytes) i ss
+find_from_numbered bytes i [] = refl
+find_from_numbered bytes i (s ∷ ss) = go (same_bytes s.name bytes) (find_from_numbered bytes (suc i) ss)
+  where
+    go : (t : Bool) → find_from bytes (suc i) ss ≡ position_from (λ s. same_bytes s.name bytes) (suc i) ss
+        → elim t as (λ x. Option ℕ) [ true ↦ Some i | false ↦ find_from bytes (suc i) ss ]
+        ≡ cond t (Some i) (position_from (λ s. same_bytes s.name bytes) (i + 1) ss)
+    go true rec = refl
+    go false rec = rec ∙ ap (λ n. position_from (λ s. same_bytes s.name bytes) n ss) (sym (add-one i))
+
+pub find_from_position : (bytes : List ℕ) (ss : List SymbolRecord)
+    → find_from bytes 0 ss ≡ position (λ s. same_bytes s.name bytes) ss
+find_from_position bytes ss = find_from_numbered bytes 0 ss ∙ sym (position_from-zero (λ s. same_bytes s.name bytes) ss)
+
+-- whether a symbol's name is found at the symbol's own number
+abbrev pub found_there : List SymbolRecord → ℕ × SymbolRecord → Bool
+found_there ss p = option_eq eqb (find_from p.1.name 0 ss) (Some p.0)
+
+each_found : (ss : List SymbolRecord) (n : ℕ) (xs : List SymbolRecord) → list_all (found_there ss) (enumerate_from n xs) ≡ true
+    → (k : ℕ) → k < length xs → find_from (name_at xs k) 0 ss ≡ Some (n + k)
+each_found ss n [] h k l = absurd (omega arith)
+each_found ss n (x ∷ xs) h zero l =
+    let p = and_parts (found_there ss (n, x)) (list_all (found_there ss) (enumerate_from (n + 1) xs)) h in
+    let m : n ≡ n + 0 = omega arith in
+    (equals_some (find_from x.name 0 ss) n (found_there ss (n, x)) refl).0 p.0 ∙ ap Some m
+each_found ss n (x ∷ xs) h (suc k) l =
+    let p = and_parts (found_there ss (n, x)) (list_all (found_there ss) (enumerate_from (n + 1) xs)) h in
+    let m : n + 1 + k ≡ n + suc k = omega arith in
+    each_found ss (n + 1) xs p.1 k (omega arith) ∙ ap Some m
+
+all_found : (ss : List SymbolRecord) (n : ℕ) (xs : List SymbolRecord)
+    → ((k : ℕ) → k < length xs → find_from (name_at xs k) 0 ss ≡ Some (n + k)) → list_all (found_there ss) (enumerate_from n xs) ≡ true
+all_found ss n [] h = refl
+all_found ss n (x ∷ xs) h =
+    let m : n + 0 ≡ n = omega arith in
+    and_from (found_there ss (n, x)) (list_all (found_there ss) (enumerate_from (n + 1) xs))
+    ((equals_some (find_from x.name 0 ss) n (found_there ss (n, x)) refl).1 (h 0 (omega arith) ∙ ap Some m))
+    (all_found ss (n + 1) xs (λ k l. let j : n + suc k ≡ n + 1 + k = omega arith in h (suc k) (omega arith) ∙ ap Some j))
+
+pub names_told : (ss : List SymbolRecord) → Decides (list_all (found_there ss) (enumerate_from 0 ss)) (DistinctNames ss)
+names_told ss = (
+  λ e. distinct_from_found ss (λ k l. let m : 0 + k ≡ k = omega arith in each_found ss 0 ss e k l ∙ ap Some m),
+  λ d. all_found ss 0 ss (λ k l. let m : k ≡ 0 + k = omega arith in found_from_distinct ss d k l ∙ ap Some m),
 )
-
-pub found_at : (ss : List SymbolRecord) (i : ℕ) (d : SymbolRecord) → i < length ss
-    → find_from (get_or ss i d).name 0 ss ≡ Some i → find_from (name_at ss i) 0 ss ≡ Some i
-found_at ss i d more e = subst (λ s. find_from s.name 0 ss ≡ Some i) (get_or_default ss i d blank_symbol more) e
-
--- the look-up's steps
-module _ (bytes : List ℕ) (ss : List SymbolRecord) (i : ℕ) (d : SymbolRecord) (more : i < length ss) where
-  looked : (t : Bool) → same_bytes (get_or ss i d).name bytes ≡ t
-      → find_from bytes i (drop i ss) ≡ elim t as (λ x. Option ℕ) [ true ↦ Some i | false ↦ find_from bytes (suc i) (drop (i + 1) ss) ]
-  looked t e =
-      at_drop_more (find_from bytes i) ss i d more
-      ∙ ap (λ x. elim x as (λ y. Option ℕ) [ true ↦ Some i | false ↦ find_from bytes (suc i) (drop (i + 1) ss) ]) e
-
-  pub found_here : same_bytes (get_or ss i d).name bytes ≡ true → find_from bytes i (drop i ss) ≡ Some i
-  found_here e = looked true e
-
-  pub found_further : same_bytes (get_or ss i d).name bytes ≡ false
-      → find_from bytes i (drop i ss) ≡ find_from bytes (i + 1) (drop (i + 1) ss)
-  found_further e = looked false e ∙ ap (λ n. find_from bytes n (drop (i + 1) ss)) (sym (add-one i))

@@ -3,3 +3,4 @@ pub mod Finding
 pub mod Tables
 pub mod Sides
 pub mod Rules
+pub mod Blanks

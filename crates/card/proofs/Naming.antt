@@ -1,11 +1,14 @@
 -- Names as bytes: a scan from left to right tells whether some name fills them. Assumes nothing.
-use Rattle.std.proofs.Common.{◌≡◌, ℕ, zero, suc, ◌+◌, ◌-◌, ◌<◌, ◌≤◌, Bool, true, false, not, ◌&&◌, eqb, leb, ◌⊎◌, List, [], ◌∷◌, ◌++◌, length, get_or, take, drop, replicate, Decides, sym, refl, ap, ◌∙◌, subst, ap₂, inl, inr, append_assoc, append-nil, arith}
-use Rattle.std.specs.List.{AllByRecursion}
+use Rattle.std.proofs.Common.{◌≡◌, ℕ, zero, suc, ◌+◌, ◌-◌, ◌<◌, ◌≤◌, Bool, true, false, ◌==◌, eqb, leb, ltb, ◌⊎◌, List, [], ◌∷◌, ◌++◌, length, get_or, take, drop, replicate, Some, None, Decides, Option, sym, refl, ap, ◌∙◌, subst, ap₂, inl, inr, arith, length-drop, take-append-drop}
+use Rattle.std.specs.List.{AllByRecursion, list_all, position_or_len}
 use Rattle.std.proofs.lemmas.Slice.Eq.{compares_Decides}
-use Rattle.std.proofs.lemmas.List.{at_drop_more, take_more}
+use Rattle.std.proofs.Math.Bool.{cond}
+use Rattle.std.proofs.Math.Seq.{drop-append_seam}
+use Rattle.std.proofs.lemmas.List.Recursion.{is_position_or_len}
+use Rattle.std.specs.Option.{unwrap_or}
+use Rattle.std.proofs.lemmas.List.{take_all}
 use Rattle.std.proofs.ByRecursion.{All-get_or}
-use Rattle.std.proofs.lemmas.Bool.{and_from, and_left, and_parts, cases_lt, eqb-true, leb-true, ne_eqb, true≢false}
-use Rattle.std.proofs.lemmas.Bool.Decides.{Decides-at}
+use Rattle.std.proofs.lemmas.Bool.{and_from, and_parts, cases_lt, eqb-true, leb-true, ltb-false, ne_eqb, true≢false}
 use Rattle.card.specs.Bytes.{letter, Name, filled, letters_of, same_bytes}
 use Rattle.card.specs.Records.{WellFormedSymbol, DistinctNames, blank_symbol, name_of}
 use Rattle.card.specs.declared.record.SymbolRecord.{SymbolRecord}
@@ -16,141 +19,7 @@ same_bytes_decides =
     compares_Decides same_bytes
     (record { empty = refl; shorter = λ y ys. refl; longer = λ x xs. refl; heads = λ x y xs ys. refl })
 
--- whether these are letters and then zeros, or zeros only once one was read
-abbrev pub letters_then_zeros : Bool → List ℕ → Bool
-letters_then_zeros ended [] = true
-letters_then_zeros ended (b ∷ bs) =
-    elim (eqb b 0) [ true ↦ letters_then_zeros true bs | false ↦ (not ended && letter b) && letters_then_zeros ended bs ]
-
-zeros : (bs : List ℕ) → letters_then_zeros true bs ≡ true → bs ≡ replicate (length bs) 0
-zeros [] h = refl
-zeros (b ∷ bs) h = go (zeros bs) (eqb b 0) refl h
-  where
-    go : (letters_then_zeros true bs ≡ true → bs ≡ replicate (length bs) 0) → (t : Bool) → eqb b 0 ≡ t
-        → elim t as (λ x. Bool) [ true ↦ letters_then_zeros true bs | false ↦ false ] ≡ true → b ∷ bs ≡ 0 ∷ replicate (length bs) 0
-    go rec true e k = ap₂ (λ x xs. x ∷ xs) (eqb-true b 0 e) (rec k)
-    go rec false e k = absurd (true≢false (sym k))
-
-record Fronted (bs : List ℕ) : Type 0 where
-  pub front : List ℕ
-  pub letters : AllByRecursion (λ b. letter b ≡ true) front
-  pub fits : length front ≤ length bs
-  pub split : bs ≡ front ++ replicate (length bs - length front) 0
-
-fronted : (bs : List ℕ) → letters_then_zeros false bs ≡ true → Fronted bs
-fronted [] h = record { front = []; letters = tt; fits = omega arith; split = refl }
-fronted (b ∷ bs) h = go (fronted bs) (eqb b 0) refl h
-  where
-    go : (letters_then_zeros false bs ≡ true → Fronted bs) → (t : Bool) → eqb b 0 ≡ t
-        → elim t as (λ x. Bool) [ true ↦ letters_then_zeros true bs | false ↦ letter b && letters_then_zeros false bs ] ≡ true
-        → Fronted (b ∷ bs)
-    go rec true e k =
-        let n : suc (length bs) ≡ suc (length bs) - 0 = omega arith in
-        record {
-          front = [];
-          letters = tt;
-          fits = omega arith;
-          split = ap₂ (λ x xs. x ∷ xs) (eqb-true b 0 e) (zeros bs k) ∙ ap (λ m. replicate m 0) n;
-        }
-    go rec false e k =
-        let p = and_parts (letter b) (letters_then_zeros false bs) k in
-        let r = rec p.1 in
-        let n : length bs - length r.front ≡ suc (length bs) - suc (length r.front) = omega arith in
-        record {
-          front = b ∷ r.front;
-          letters = (p.0, r.letters);
-          fits = omega (arith, r.fits);
-          split = ap (λ xs. b ∷ xs) (r.split ∙ ap (λ m. r.front ++ replicate m 0) n);
-        }
-
-zeros_pass : (ended : Bool) (k : ℕ) → letters_then_zeros ended (replicate k 0) ≡ true
-zeros_pass ended zero = refl
-zeros_pass ended (suc k) = zeros_pass true k
-
-letters_pass : (front : List ℕ) (k : ℕ) → AllByRecursion (λ b. letter b ≡ true) front
-    → letters_then_zeros false (front ++ replicate k 0) ≡ true
-letters_pass [] k h = zeros_pass false k
-letters_pass (b ∷ front) k h = go (letters_pass front k h.1) (eqb b 0) refl
-  where
-    go : letters_then_zeros false (front ++ replicate k 0) ≡ true → (t : Bool) → eqb b 0 ≡ t
-        → elim t as (λ x. Bool) [ true ↦ letters_then_zeros true (front ++ replicate k 0) | false ↦ letter b && letters_then_zeros false (front ++ replicate k 0) ] ≡ true
-    go rec true e = absurd (true≢false (sym h.0 ∙ ap letter (eqb-true b 0 e)))
-    go rec false e = and_from (letter b) (letters_then_zeros false (front ++ replicate k 0)) h.0 rec
-
-some_letter : (front : List ℕ) (k : ℕ) → letter (get_or (front ++ replicate k 0) 0 0) ≡ true → 1 ≤ length front
-some_letter [] zero h = absurd (true≢false (sym h))
-some_letter [] (suc k) h = absurd (true≢false (sym h))
-some_letter (b ∷ front) k h = omega arith
-
-first_letter : (name : List ℕ) → Name name → letter (get_or (filled name) 0 0) ≡ true
-first_letter [] n = absurd (omega (arith, n.some))
-first_letter (b ∷ bs) n = n.letters.0
-
-pub name_told : (bs : List ℕ) → length bs ≡ 12 → Decides (letters_then_zeros false bs && letter (get_or bs 0 0)) (HoldsName bs)
-name_told bs long = (name_from, name_passes)
-  where
-    name_from : (letters_then_zeros false bs && letter (get_or bs 0 0)) ≡ true → HoldsName bs
-    name_from h =
-        let p = and_parts (letters_then_zeros false bs) (letter (get_or bs 0 0)) h in
-        let r = fronted bs p.0 in
-        let first = subst (λ xs. letter (get_or xs 0 0) ≡ true) r.split p.1 in
-        let some = some_letter r.front (length bs - length r.front) first in
-        record {
-          name = r.front;
-          named = record { some = some; few = omega (arith, r.fits); letters = r.letters };
-          holds = r.split ∙ ap (λ m. r.front ++ replicate (m - length r.front) 0) long;
-        }
-
-    name_passes : HoldsName bs → (letters_then_zeros false bs && letter (get_or bs 0 0)) ≡ true
-    name_passes n =
-        subst (λ xs. (letters_then_zeros false xs && letter (get_or xs 0 0)) ≡ true) (sym n.holds)
-        (and_from (letters_then_zeros false (filled n.name)) (letter (get_or (filled n.name) 0 0))
-        (letters_pass n.name (12 - length n.name) n.named.letters) (first_letter n.name n.named))
-
--- THE SCAN'S STEPS
-
-module _ (bs : List ℕ) (i : ℕ) (more : i < length bs) (ended : Bool) where
-  pub zero_scanned : get_or bs i 0 ≡ 0 → letters_then_zeros ended (drop i bs) ≡ letters_then_zeros true (drop (i + 1) bs)
-  zero_scanned e = at_drop_more (letters_then_zeros ended) bs i 0 more ∙ ap (λ b. letters_then_zeros ended (b ∷ drop (i + 1) bs)) e
-
-  other_scanned : (get_or bs i 0 ≡ 0 → ⊥)
-      → letters_then_zeros ended (drop i bs) ≡ ((not ended && letter (get_or bs i 0)) && letters_then_zeros ended (drop (i + 1) bs))
-  other_scanned e =
-      at_drop_more (letters_then_zeros ended) bs i 0 more
-      ∙ ap (λ t. elim t as (λ x. Bool) [ true ↦ letters_then_zeros true (drop (i + 1) bs) | false ↦ (not ended && letter (get_or bs i 0)) && letters_then_zeros ended (drop (i + 1) bs) ]) (ne_eqb (get_or bs i 0) 0 e)
-
-  pub letter_scanned : (get_or bs i 0 ≡ 0 → ⊥) → ended ≡ false → letter (get_or bs i 0) ≡ true
-      → letters_then_zeros ended (drop i bs) ≡ letters_then_zeros ended (drop (i + 1) bs)
-  letter_scanned e open' l =
-      other_scanned e ∙ ap₂ (λ x y. (not x && y) && letters_then_zeros ended (drop (i + 1) bs)) open' l
-
-  pub no_name : (get_or bs i 0 ≡ 0 → ⊥) → (not ended && letter (get_or bs i 0)) ≡ false
-      → length bs ≡ 12 → letters_then_zeros ended (drop i bs) ≡ letters_then_zeros false bs → Decides false (HoldsName bs)
-  no_name e stop long inv =
-      let fails : letters_then_zeros false bs ≡ false = sym inv ∙ (other_scanned e ∙ ap (λ x. x && letters_then_zeros ended (drop (i + 1) bs)) stop) in
-      Decides-at false _ (sym (and_left (letters_then_zeros false bs) (letter (get_or bs 0 0)) fails)) (name_told bs long)
-
 -- THE LETTERS OF A NAME
-
-letters_stop : (b : ℕ) (bs : List ℕ) → b ≡ 0 → letters_of (b ∷ bs) ≡ []
-letters_stop zero bs e = refl
-letters_stop (suc b) bs e = absurd (omega arith)
-
-letters_go_on : (b : ℕ) (bs : List ℕ) → (b ≡ 0 → ⊥) → letters_of (b ∷ bs) ≡ b ∷ letters_of bs
-letters_go_on zero bs h = absurd (h refl)
-letters_go_on (suc b) bs h = refl
-
-module _ (bs : List ℕ) (i : ℕ) (more : i < length bs) (so_far : letters_of bs ≡ take i bs ++ letters_of (drop i bs)) where
-  pub letters_end : get_or bs i 0 ≡ 0 → letters_of bs ≡ take i bs
-  letters_end e =
-      so_far
-      ∙ (ap (λ l. take i bs ++ l) (at_drop_more letters_of bs i 0 more ∙ letters_stop (get_or bs i 0) (drop (i + 1) bs) e) ∙ append-nil (take i bs))
-
-  pub letters_more : (get_or bs i 0 ≡ 0 → ⊥) → letters_of bs ≡ take (i + 1) bs ++ letters_of (drop (i + 1) bs)
-  letters_more h =
-      so_far
-      ∙ (ap (λ l. take i bs ++ l) (at_drop_more letters_of bs i 0 more ∙ letters_go_on (get_or bs i 0) (drop (i + 1) bs) h)
-      ∙ (sym (append_assoc (take i bs) (get_or bs i 0 ∷ []) (letters_of (drop (i + 1) bs))) ∙ ap (λ l. l ++ letters_of (drop (i + 1) bs)) (sym (take_more bs i 0 more))))
 
 pub letters_few : (bs : List ℕ) → length (letters_of bs) ≤ length bs
 letters_few [] = omega arith
@@ -192,3 +61,115 @@ names_apart ss each distinct f g h k e = go (cases_lt f g)
     go : (f < g) ⊎ (g ≤ f) → f ≡ g
     go (inl l) = absurd (distinct f g l k same)
     go (inr m) = later (cases_lt g f) m
+
+letters_counted : (bs : List ℕ) → length (letters_of bs) ≡ position_or_len (λ b. eqb b 0) bs
+letters_counted = is_position_or_len (λ bs. length (letters_of bs)) (λ b. eqb b 0) refl more
+  where
+    more : (b : ℕ) (bs : List ℕ) → length (letters_of (b ∷ bs)) ≡ cond (eqb b 0) 0 (1 + length (letters_of bs))
+    more zero bs = refl
+    more (suc b) bs =
+        let n : suc (length (letters_of bs)) ≡ 1 + length (letters_of bs) = omega arith in
+        n ∙ sym (ap (λ t. cond t 0 (1 + length (letters_of bs))) (ne_eqb (suc b) 0 (λ e. absurd (omega (arith, e)))))
+
+letters_in_front : (bs : List ℕ) → take (length (letters_of bs)) bs ≡ letters_of bs
+letters_in_front [] = refl
+letters_in_front (zero ∷ bs) = refl
+letters_in_front (suc b ∷ bs) = ap (λ l. suc b ∷ l) (letters_in_front bs)
+
+-- a name's letters are what stands before its first zero
+pub letters_up_to_zero : (bs : List ℕ) → length bs ≡ 12 → (o : Option ℕ) (n : ℕ)
+    → o ≡ cond (ltb (position_or_len (λ b. eqb b 0) bs) (length bs)) (Some (position_or_len (λ b. eqb b 0) bs)) None
+    → n ≡ unwrap_or o 12 → take n bs ≡ letters_of bs
+letters_up_to_zero bs long o n first is =
+    go (ltb k (length bs)) refl ∙ (ap (λ m. take m bs) (sym (letters_counted bs)) ∙ letters_in_front bs)
+  where
+    k : ℕ
+    k = position_or_len (λ b. eqb b 0) bs
+
+    go : (t : Bool) → ltb k (length bs) ≡ t → take n bs ≡ take k bs
+    go true e = ap (λ m. take m bs) (is ∙ ap (λ x. unwrap_or x 12) (first ∙ ap (λ u. cond u (Some k) None) e))
+    go false e =
+        let m : n ≡ 12 = is ∙ ap (λ x. unwrap_or x 12) (first ∙ ap (λ u. cond u (Some k) None) e) in
+        take_all n bs (omega (arith, m, long)) ∙ sym (take_all k bs (ltb-false k (length bs) e))
+
+-- WHETHER A NAME FILLS THESE BYTES
+
+zeros_there : (bs : List ℕ) → list_all (λ b. eqb b 0) bs ≡ true → bs ≡ replicate (length bs) 0
+zeros_there [] h = refl
+zeros_there (b ∷ bs) h =
+    let p = and_parts (eqb b 0) (list_all (λ x. eqb x 0) bs) h in
+    ap₂ (λ x xs. x ∷ xs) (eqb-true b 0 p.0) (zeros_there bs p.1)
+
+zeros_pass : (n : ℕ) → list_all (λ b. eqb b 0) (replicate n 0) ≡ true
+zeros_pass zero = refl
+zeros_pass (suc n) = zeros_pass n
+
+letters_there : (bs : List ℕ) → list_all letter bs ≡ true → AllByRecursion (λ b. letter b ≡ true) bs
+letters_there [] h = tt
+letters_there (b ∷ bs) h = let p = and_parts (letter b) (list_all letter bs) h in (p.0, letters_there bs p.1)
+
+letters_pass : (bs : List ℕ) → AllByRecursion (λ b. letter b ≡ true) bs → list_all letter bs ≡ true
+letters_pass [] h = refl
+letters_pass (b ∷ bs) h = and_from (letter b) (list_all letter bs) h.0 (letters_pass bs h.1)
+
+-- some letters, and zeros behind them
+pub record LettersThenZeros (bs : List ℕ) : Type 0 where
+  pub some : 1 ≤ length (letters_of bs)
+  pub letters : list_all letter (letters_of bs) ≡ true
+  pub zeros : list_all (λ b. eqb b 0) (drop (length (letters_of bs)) bs) ≡ true
+
+pub name_from_parts : (bs : List ℕ) → length bs ≡ 12 → LettersThenZeros bs → HoldsName bs
+name_from_parts bs long p =
+    let n = length (letters_of bs) in
+    let few = letters_few bs in
+    let rest : length (drop n bs) ≡ 12 - n = length-drop n bs ∙ ap (λ k. k - n) long in
+    record {
+      name = letters_of bs;
+      named = record { some = p.some; few = omega (arith, few, long); letters = letters_there (letters_of bs) p.letters };
+      holds = sym (take-append-drop n bs) ∙ ap₂ (λ xs ys. xs ++ ys) (letters_in_front bs) (zeros_there (drop n bs) p.zeros ∙ ap (λ k. replicate k 0) rest);
+    }
+
+pub parts_of_name : (bs : List ℕ) → HoldsName bs → LettersThenZeros bs
+parts_of_name bs h = subst LettersThenZeros (sym h.holds) (parts h.name h.named)
+  where
+    parts : (name : List ℕ) → Name name → LettersThenZeros (filled name)
+    parts name n =
+        let front = letters_of_filled name (12 - length name) n.letters in
+        record {
+          some = subst (λ xs. 1 ≤ length xs) (sym front) n.some;
+          letters = ap (list_all letter) front ∙ letters_pass name n.letters;
+          zeros = ap (λ xs. list_all (λ b. eqb b 0) (drop (length xs) (filled name))) front
+              ∙ (ap (list_all (λ b. eqb b 0)) (drop-append_seam name (replicate (12 - length name) 0)) ∙ zeros_pass (12 - length name));
+        }
+
+nonzero : (n : ℕ) → (n == 0) ≡ false → 1 ≤ n
+nonzero zero h = absurd (true≢false h)
+nonzero (suc n) h = omega arith
+
+-- the three parts of the test, where the letters were found
+module _ (bs : List ℕ) (long : length bs ≡ 12) (k : List ℕ) (found : k ≡ letters_of bs) where
+  pub name_decided : (r e : Bool) → e ≡ (length k == 0) → e ≡ false → list_all letter k ≡ true → r ≡ list_all (λ b. eqb b 0) (drop (length k) bs)
+      → Decides r (HoldsName bs)
+  name_decided r e empty not_empty letters zeros =
+      let some : 1 ≤ length k = nonzero (length k) (sym empty ∙ not_empty) in
+      let last = zeros ∙ ap (λ xs. list_all (λ b. eqb b 0) (drop (length xs) bs)) found in (
+        λ t. name_from_parts bs long (record {
+          some = subst (λ xs. 1 ≤ length xs) found some;
+          letters = ap (list_all letter) (sym found) ∙ letters;
+          zeros = sym last ∙ t;
+        }),
+        λ h. last ∙ (parts_of_name bs h).zeros,
+      )
+
+  pub no_letters : (r e : Bool) → r ≡ false → e ≡ (length k == 0) → e ≡ true → Decides r (HoldsName bs)
+  no_letters r e fails empty is_empty =
+      let none = eqb-true (length k) 0 (sym empty ∙ is_empty) in (
+        λ t. absurd (true≢false (sym t ∙ fails)),
+        λ h. absurd (omega (arith, (parts_of_name bs h).some, ap length found, none)),
+      )
+
+  pub no_letter : (r : Bool) → r ≡ false → r ≡ list_all letter k → Decides r (HoldsName bs)
+  no_letter r fails letters = (
+    λ e. absurd (true≢false (sym e ∙ fails)),
+    λ h. letters ∙ (ap (list_all letter) found ∙ (parts_of_name bs h).letters),
+  )

@@ -1,10 +1,9 @@
 -- Rules: what a rule's record is made of, and the well-formed card of records that keep the rules. Assumes nothing.
-use Rattle.std.proofs.Common.{◌≡◌, ℕ, suc, ◌+◌, ◌-◌, ◌<◌, ◌≤◌, Bool, true, false, eqb, List, [], ◌∷◌, ◌++◌, map, length, get_or, take, drop, replicate, is_some, Some, None, Decides, Option, sym, refl, ap, ◌∙◌, subst, ⊎_elim, arith}
+use Rattle.std.proofs.Common.{◌≡◌, ℕ, suc, ◌-◌, ◌≤◌, Bool, true, false, eqb, List, [], ◌∷◌, ◌++◌, map, length, get_or, take, replicate, is_some, Some, None, Decides, Option, sym, refl, ap, ◌∙◌, subst, ⊎_elim, arith}
 use mathlib.Core.List.Memᴰ
 use mathlib.Core.List.{Memᴰ}
-use Rattle.std.specs.List.{AllByRecursion}
-use Rattle.std.proofs.lemmas.List.{at_drop_all, drop_more}
-use Rattle.std.proofs.lemmas.Bool.{eqb-true, or_cases, true≢false}
+use Rattle.std.specs.List.{AllByRecursion, filter_map, list_all}
+use Rattle.std.proofs.lemmas.Bool.{and_from, and_parts, eq-eqb, eqb-true, or_cases, or_left, or_right, true≢false}
 use Rattle.std.proofs.lemmas.Bool.Decides.{Decides-like}
 use Rattle.rewriting.specs.Terms.{Term, var, app, occurs}
 use Rattle.rewriting.specs.Cards as theory
@@ -20,32 +19,26 @@ use Rattle.card.proofs.Sides.{mentions_side, side_holds_one_term}
 
 -- A RULE'S RECORD
 
-within_first : (p : Place) (ps outer : List Place) → ((v : ℕ) → variable_of p ≡ Some v → mentions v outer ≡ true)
-    → Within ps outer → Within (p ∷ ps) outer
-within_first Empty ps outer first rest = rest
-within_first (Symbol f) ps outer first rest = rest
-within_first (Variable w) ps outer first rest =
-    λ v h. ⊎_elim (λ e. first v (ap Some (eqb-true w v e))) (rest v) (or_cases (eqb w v) (mentions v ps) h)
+pub within_told : (inner outer : List Place)
+    → Decides (list_all (λ v. mentions v outer) (filter_map variable_of inner)) (Within inner outer)
+within_told inner outer = (within_from inner, within_passes inner)
+  where
+    within_from : (ps : List Place) → list_all (λ v. mentions v outer) (filter_map variable_of ps) ≡ true → Within ps outer
+    within_from [] h = λ v m. absurd (true≢false (sym m))
+    within_from (Empty ∷ ps) h = within_from ps h
+    within_from (Symbol f ∷ ps) h = within_from ps h
+    within_from (Variable w ∷ ps) h =
+        let p = and_parts (mentions w outer) (list_all (λ v. mentions v outer) (filter_map variable_of ps)) h in
+        λ v m. ⊎_elim (λ e. subst (λ x. mentions x outer ≡ true) (eqb-true w v e) p.0) (within_from ps p.1 v) (or_cases (eqb w v) (mentions v ps) m)
 
-module _ (inner outer : List Place) (i : ℕ) (d : Place) (more : i < length inner) where
-  within_more : ((v : ℕ) → variable_of (get_or inner i d) ≡ Some v → mentions v outer ≡ true)
-      → Within (drop (i + 1) inner) outer → Within (drop i inner) outer
-  within_more first rest =
-      subst (λ ps. Within ps outer) (sym (drop_more inner i d more)) (within_first (get_or inner i d) (drop (i + 1) inner) outer first rest)
-
-  pub within_none : None ≡ variable_of (get_or inner i d) → Within (drop (i + 1) inner) outer → Within (drop i inner) outer
-  within_none e = within_more (λ v h. let z : ◌≡◌ {A = ℕ} 0 1 = cc in absurd (omega arith))
-
-  pub within_some : (v : ℕ) → Some v ≡ variable_of (get_or inner i d) → true ≡ mentions v outer
-      → Within (drop (i + 1) inner) outer → Within (drop i inner) outer
-  within_some v e m = within_more (λ w h. let same : v ≡ w = cc in subst (λ x. mentions x outer ≡ true) same (sym m))
-
-pub within_none_left : (inner outer : List Place) (i : ℕ) → length inner ≤ i → Within (drop i inner) outer
-within_none_left inner outer i end = λ v h. absurd (true≢false (sym h ∙ at_drop_all (mentions v) inner i end))
-
-pub not_within : (inner outer : List Place) (v : ℕ) → mentions v inner ≡ true → false ≡ mentions v outer
-    → Decides false (Within inner outer)
-not_within inner outer v here lacks = (λ e. absurd (true≢false (sym e)), λ w. lacks ∙ w v here)
+    within_passes : (ps : List Place) → Within ps outer → list_all (λ v. mentions v outer) (filter_map variable_of ps) ≡ true
+    within_passes [] h = refl
+    within_passes (Empty ∷ ps) h = within_passes ps h
+    within_passes (Symbol f ∷ ps) h = within_passes ps h
+    within_passes (Variable w ∷ ps) h =
+        and_from (mentions w outer) (list_all (λ v. mentions v outer) (filter_map variable_of ps))
+        (h w (or_left (eqb w w) (mentions w ps) (eq-eqb w w refl)))
+        (within_passes ps (λ v m. h v (or_right (eqb w v) (mentions v ps) m)))
 
 abbrev lone : Term → Option ℕ
 lone (var v) = Some v

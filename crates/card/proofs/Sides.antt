@@ -1,7 +1,9 @@
 -- Sides: a walk with the number of terms that are due tells whether a side holds a term. Assumes nothing.
 use Rattle.std.proofs.Common.{◌≡◌, ℕ, zero, suc, ◌+◌, ◌-◌, ◌<◌, ◌≤◌, Bool, true, false, ◌||◌, eqb, ltb, List, [], ◌∷◌, ◌++◌, map, length, get_or, drop, replicate, Some, None, Decides, Option, sym, refl, ap, ◌∙◌, subst, ap₂, ⊎_elim, append-nil, arith}
+use Rattle.std.specs.List.{list_any}
+use Rattle.std.specs.Option.{option_eq}
 use Rattle.std.proofs.lemmas.List.{at_drop_more, map-append}
-use Rattle.std.proofs.lemmas.Bool.{eqb-true, eq-eqb, lt-ltb, ltb-true, ne_eqb, or_cases, or_left, or_right, true≢false}
+use Rattle.std.proofs.lemmas.Bool.{eqb-true, eq-eqb, lt-ltb, ltb-true, or_cases, or_left, or_right, true≢false}
 use Rattle.rewriting.specs.Terms.{Term, var, app, Terms, nilᵗ, consᵗ, countᵗ, occurs, occurs_in}
 use Rattle.rewriting.specs.Cards.{Signature, TermOn, TermsOn}
 use Rattle.rewriting.specs.Places as theory
@@ -10,7 +12,7 @@ use Rattle.card.specs.declared.record.Place.{Place}
 use Rattle.card.specs.declared.record.Place.TheVariants.{Empty, Symbol, Variable}
 use Rattle.card.specs.declared.record.SymbolRecord.{SymbolRecord}
 use Rattle.card.specs.Records.{arities, first_term, side_places, side_term, SideIs, stored}
-use Rattle.card.specs.Scans.{due_after, HoldsTerm, mentions, variable_of}
+use Rattle.card.specs.Scans.{due_after, due_behind, HoldsTerm, mentions, variable_of}
 
 -- PLACES AND VARIABLES
 
@@ -220,37 +222,26 @@ module _ (Σ : Signature) where
   due_after_lacking zero f e = refl
   due_after_lacking (suc n) f e = ap (λ o. elim o as (λ x. Option ℕ) [ None ↦ None | Some b ↦ Some (b + n) ]) e
 
-  pub walked_on : (side : List Place) (i n : ℕ) (d : Place) (o : Option ℕ) → i < length side
+  pub went_on : (side : List Place) (i n : ℕ) (d : Place) (o : Option ℕ) → i < length side
       → o ≡ due_after Σ n (get_or side i d)
-      → walk Σ n (drop i side) ≡ elim o as (λ x. Bool) [ None ↦ false | Some m ↦ walk Σ m (drop (i + 1) side) ]
-  walked_on side i n d o more e =
-      at_drop_more (walk Σ n) side i d more
-      ∙ ap (λ x. elim x as (λ y. Bool) [ None ↦ false | Some m ↦ walk Σ m (drop (i + 1) side) ]) (sym e)
+      → due_behind Σ n (drop i side) ≡ elim o as (λ x. Option ℕ) [ None ↦ None | Some m ↦ due_behind Σ m (drop (i + 1) side) ]
+  went_on side i n d o more e =
+      at_drop_more (due_behind Σ n) side i d more
+      ∙ ap (λ x. elim x as (λ y. Option ℕ) [ None ↦ None | Some m ↦ due_behind Σ m (drop (i + 1) side) ]) (sym e)
 
--- VARIABLES, PLACE BY PLACE
+  -- none is due behind a side exactly if the walk ends well
+  pub walk_told : (n : ℕ) (ps : List Place) → option_eq eqb (due_behind Σ n ps) (Some 0) ≡ walk Σ n ps
+  walk_told n [] = refl
+  walk_told n (p ∷ ps) = go (due_after Σ n p) (λ m. walk_told m ps)
+    where
+      go : (o : Option ℕ) → ((m : ℕ) → option_eq eqb (due_behind Σ m ps) (Some 0) ≡ walk Σ m ps)
+          → option_eq eqb (elim o as (λ x. Option ℕ) [ None ↦ None | Some m ↦ due_behind Σ m ps ]) (Some 0)
+          ≡ elim o as (λ x. Bool) [ None ↦ false | Some m ↦ walk Σ m ps ]
+      go None rec = refl
+      go (Some m) rec = rec m
 
-mentions_at : (v : ℕ) (side : List Place) (i : ℕ) (d : Place) → i < length side → get_or side i d ≡ Variable v
-    → mentions v side ≡ true
-mentions_at v [] i d h e = absurd (omega arith)
-mentions_at v (p ∷ ps) zero d h e = ap (λ x. mentions v (x ∷ ps)) e ∙ or_left (eqb v v) (mentions v ps) (eq-eqb v v refl)
-mentions_at v (Empty ∷ ps) (suc i) d h e = mentions_at v ps i d (omega arith) e
-mentions_at v (Symbol f ∷ ps) (suc i) d h e = mentions_at v ps i d (omega arith) e
-mentions_at v (Variable w ∷ ps) (suc i) d h e = or_right (eqb w v) (mentions v ps) (mentions_at v ps i d (omega arith) e)
-
-mentions_first : (v : ℕ) (p : Place) (ps : List Place) → (variable_of p ≡ Some v → ⊥) → mentions v (p ∷ ps) ≡ mentions v ps
-mentions_first v Empty ps h = refl
-mentions_first v (Symbol f) ps h = refl
-mentions_first v (Variable w) ps h = ap (λ b. b || mentions v ps) (ne_eqb w v (λ e. h (ap Some e)))
-
-variable_there : (v : ℕ) (p : Place) → variable_of p ≡ Some v → p ≡ Variable v
-variable_there v Empty e = let z : ◌≡◌ {A = ℕ} 0 1 = cc in absurd (omega arith)
-variable_there v (Symbol f) e = let z : ◌≡◌ {A = ℕ} 0 1 = cc in absurd (omega arith)
-variable_there v (Variable w) e = cc
-
-module _ (side : List Place) (i : ℕ) (d : Place) (more : i < length side) where
-  pub mentions_here : (v : ℕ) → Some v ≡ variable_of (get_or side i d) → mentions v side ≡ true
-  mentions_here v e = mentions_at v side i d more (variable_there v (get_or side i d) (sym e))
-
-  pub mentions_further : (v : ℕ) → (variable_of (get_or side i d) ≡ Some v → ⊥)
-      → mentions v (drop i side) ≡ mentions v (drop (i + 1) side)
-  mentions_further v h = at_drop_more (mentions v) side i d more ∙ mentions_first v (get_or side i d) (drop (i + 1) side) h
+pub mentions_any : (v : ℕ) (side : List Place) → mentions v side ≡ list_any (λ p. option_eq eqb (variable_of p) (Some v)) side
+mentions_any v [] = refl
+mentions_any v (Empty ∷ ps) = mentions_any v ps
+mentions_any v (Symbol f ∷ ps) = mentions_any v ps
+mentions_any v (Variable w ∷ ps) = ap (λ b. eqb w v || b) (mentions_any v ps)

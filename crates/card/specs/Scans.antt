@@ -28,6 +28,11 @@ due_after Σ (suc n) Empty = None
 due_after Σ (suc n) (Symbol f) = elim (Σ f) [ None ↦ None | Some a ↦ Some (a + n) ]
 due_after Σ (suc n) (Variable v) = elim (nat_lt v 8) [ true ↦ Some n | false ↦ None ]
 
+-- how many are due behind all of these places, or nothing where one of them may not stand
+abbrev pub due_behind : theory.Signature → ℕ → List Place → Option ℕ
+due_behind Σ n [] = Some n
+due_behind Σ n (p ∷ ps) = elim (due_after Σ n p) [ None ↦ None | Some m ↦ due_behind Σ m ps ]
+
 -- the variable that stands at a place, if one does
 abbrev pub variable_of : Place → Option ℕ
 variable_of Empty = None

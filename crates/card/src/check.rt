@@ -2,7 +2,7 @@
 ghost use Rattle.std.specs.Prelude.{◌≡◌, ◌+◌, ◌^◌, ◌<◌, ◌≤◌, IfSome, Decides};
 ghost use Rattle.std.specs.List.{AllByRecursion};
 ghost use Rattle.card.specs.Records.{arities, DistinctNames, Kept, WellFormedRule, WellFormedSymbol};
-ghost use Rattle.card.specs.Scans.{due_after, HoldsTerm, mentions, variable_of, Within};
+ghost use Rattle.card.specs.Scans.{due_after, due_behind, HoldsTerm, mentions, variable_of, Within};
 
 use crate::name::{find, is_name};
 use crate::record::{Card, Place, RuleRecord, SymbolRecord};
@@ -26,24 +26,17 @@ fn is_symbol(symbol: &SymbolRecord) -> bool
 fn all_symbols(symbols: &[SymbolRecord]) -> bool
     ensures { Decides result (AllByRecursion WellFormedSymbol symbols.now) }
 {
-    for symbol in symbols {
-        if !is_symbol(symbol) {
-            return false;
-        }
-    }
-    true
+    symbols.iter().all(is_symbol)
 }
 
 // Whether no name comes twice: each name is found first where it stands.
 fn names_distinct(symbols: &[SymbolRecord]) -> bool
     ensures { Decides result (DistinctNames symbols.now) }
 {
-    for i in 0..symbols.len() {
-        if find(symbols, &symbols[i].name) != Some(i) {
-            return false;
-        }
-    }
-    true
+    symbols
+        .iter()
+        .enumerate()
+        .all(|(i, symbol)| find(symbols, &symbol.name) == Some(i))
 }
 
 // How many terms are still due behind a place, if it may stand where `due` of them are: an empty place where none is, and
@@ -63,18 +56,22 @@ fn due_after(symbols: &[SymbolRecord], due: usize, place: Place) -> Option<usize
     }
 }
 
-// Whether a side holds a term: walks its places with the number of terms that are still due.
-fn is_side(symbols: &[SymbolRecord], side: &[Place; 32]) -> bool
-    ensures { Decides result (HoldsTerm (arities symbols.now) side.now) }
+// How many terms are still due behind all of these places, where one is due before them, if each may stand where it does.
+fn due_behind(symbols: &[SymbolRecord], side: &[Place; 32]) -> Option<usize>
+    ensures { result ≡ due_behind (arities symbols.now) 1 side.now }
 {
     let mut due = 1;
     for place in side {
-        let Some(n) = due_after(symbols, due, *place) else {
-            return false;
-        };
-        due = n;
+        due = due_after(symbols, due, *place)?;
     }
-    due == 0
+    Some(due)
+}
+
+// Whether a side holds a term: its places leave none due.
+fn is_side(symbols: &[SymbolRecord], side: &[Place; 32]) -> bool
+    ensures { Decides result (HoldsTerm (arities symbols.now) side.now) }
+{
+    due_behind(symbols, side) == Some(0)
 }
 
 // The variable that stands at a place, if one does.
@@ -91,27 +88,18 @@ fn variable_of(place: Place) -> Option<u8>
 fn has_variable(side: &[Place; 32], variable: u8) -> bool
     ensures { result ≡ mentions variable side.now }
 {
-    for place in side {
-        if variable_of(*place) == Some(variable) {
-            return true;
-        }
-    }
-    false
+    side.iter()
+        .any(|place| variable_of(*place) == Some(variable))
 }
 
 // Whether each variable of one side is one of the other side's.
 fn variables_within(inner: &[Place; 32], outer: &[Place; 32]) -> bool
     ensures { Decides result (Within inner.now outer.now) }
 {
-    for place in inner {
-        let Some(v) = variable_of(*place) else {
-            continue;
-        };
-        if !has_variable(outer, v) {
-            return false;
-        }
-    }
-    true
+    inner
+        .iter()
+        .filter_map(|place| variable_of(*place))
+        .all(|v| has_variable(outer, v))
 }
 
 // Whether a record is that of a rule over these symbols.
@@ -127,12 +115,7 @@ fn is_rule(symbols: &[SymbolRecord], rule: &RuleRecord) -> bool
 fn all_rules(symbols: &[SymbolRecord], rules: &[RuleRecord]) -> bool
     ensures { Decides result (AllByRecursion (WellFormedRule (arities symbols.now)) rules.now) }
 {
-    for rule in rules {
-        if !is_rule(symbols, rule) {
-            return false;
-        }
-    }
-    true
+    rules.iter().all(|rule| is_rule(symbols, rule))
 }
 
 // Whether both tables are long enough and their counted records keep the card's rules.
@@ -143,9 +126,9 @@ pub fn keeps_rules(symbols: &[SymbolRecord], rules: &[RuleRecord], card: Card) -
     if symbols.len() < TABLE || rules.len() < TABLE || m > TABLE || n > TABLE {
         return false;
     }
-    let symbols = &symbols[0..m];
+    let symbols = &symbols[..m];
     if !all_symbols(symbols) || !names_distinct(symbols) {
         return false;
     }
-    all_rules(symbols, &rules[0..n])
+    all_rules(symbols, &rules[..n])
 }

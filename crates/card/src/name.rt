@@ -10,34 +10,25 @@ use crate::record::SymbolRecord;
 pub fn is_letter(b: u8) -> bool
     ensures { result ≡ letter b }
 {
-    b'a' <= b && b <= b'z'
+    b.is_ascii_lowercase()
 }
 
 // Whether some name fills these bytes: one letter at least, and behind the letters nothing but zeros.
 pub fn is_name(name: &[u8; 12]) -> bool
     ensures { Decides result (HoldsName name.now) }
 {
-    let mut ended = false;
-    for b in name {
-        if *b == 0 {
-            ended = true;
-        } else if ended || !is_letter(*b) {
-            return false;
-        }
-    }
-    is_letter(name[0])
+    let letters = letters(name);
+    !letters.is_empty()
+        && letters.iter().all(|b| is_letter(*b))
+        && name.iter().skip(letters.len()).all(|b| *b == 0)
 }
 
 // The letters of a name, without the zeros that fill it.
 pub fn letters(name: &[u8; 12]) -> &[u8]
     ensures { result.now ≡ letters_of name.now }
 {
-    for i in 0..12 {
-        if name[i] == 0 {
-            return &name[0..i];
-        }
-    }
-    name
+    let n = name.iter().position(|b| *b == 0).unwrap_or(12);
+    &name[..n]
 }
 
 // Whether two names are the same.
@@ -51,10 +42,7 @@ pub fn same_name(a: &[u8; 12], b: &[u8; 12]) -> bool
 pub fn find(symbols: &[SymbolRecord], name: &[u8; 12]) -> Option<usize>
     ensures { result ≡ find_from name.now 0 symbols.now }
 {
-    for (i, symbol) in symbols.iter().enumerate() {
-        if same_name(&symbol.name, name) {
-            return Some(i);
-        }
-    }
-    None
+    symbols
+        .iter()
+        .position(|symbol| same_name(&symbol.name, name))
 }

@@ -5,35 +5,35 @@ ghost use Rattle.card.specs.Refusals.{number_of};
 #[derive(Clone, Copy, PartialEq, Eq)]
 pub enum Refusal {
     // a tin number above 15
-    NoSuchTin,
+    NoSuchTin = 1,
     // a tin to be read or run is empty
-    EmptyTin,
+    EmptyTin = 2,
     // a budget above 100,000
-    BudgetTooLarge,
+    BudgetTooLarge = 3,
     // a recipe or card text that is too long
-    TextTooLong,
+    TextTooLong = 4,
     // malformed text
-    Malformed,
+    Malformed = 5,
     // a name that is not on the card
-    UnknownName,
+    UnknownName = 6,
     // a wrong number of children
-    WrongChildren,
+    WrongChildren = 7,
     // a bracket opens inside as many open ones as there may be
-    TooDeep,
+    TooDeep = 8,
     // the tree of a put or a join does not fit the store
-    NoRoom,
+    NoRoom = 9,
     // a buffer that is shorter than what goes into it
-    BufferTooShort,
+    BufferTooShort = 10,
     // one symbol, rule or place too many, or a digit above 4
-    OverLimit,
+    OverLimit = 11,
     // a symbol's name that is already on the card
-    NameTaken,
+    NameTaken = 12,
     // a left side that is a lone variable
-    LoneVariable,
+    LoneVariable = 13,
     // a variable of the right side that the left side lacks
-    UnboundVariable,
+    UnboundVariable = 14,
     // a table of the wrong length, or a counted record that breaks the card's rules
-    BrokenTable,
+    BrokenTable = 15,
 }
 
 impl Refusal {
@@ -41,22 +41,6 @@ impl Refusal {
     pub fn number(self) -> u8
         ensures { result ≡ number_of self }
     {
-        match self {
-            Refusal::NoSuchTin => 1,
-            Refusal::EmptyTin => 2,
-            Refusal::BudgetTooLarge => 3,
-            Refusal::TextTooLong => 4,
-            Refusal::Malformed => 5,
-            Refusal::UnknownName => 6,
-            Refusal::WrongChildren => 7,
-            Refusal::TooDeep => 8,
-            Refusal::NoRoom => 9,
-            Refusal::BufferTooShort => 10,
-            Refusal::OverLimit => 11,
-            Refusal::NameTaken => 12,
-            Refusal::LoneVariable => 13,
-            Refusal::UnboundVariable => 14,
-            Refusal::BrokenTable => 15,
-        }
+        self as u8
     }
 }

@@ -5,9 +5,8 @@ ghost use Rattle.card.specs.declared.refusal.Refusal.TheVariants.{BrokenTable};
 ghost use Rattle.draft.specs.Drafts.{counts, Refused, RuleTaken, SymbolTaken};
 ghost use Rattle.reading.specs.Lines.{rule_line, symbol_line};
 
-use crate::wipe::wipe;
 use card::check::keeps_rules;
-use card::record::{Card, Place, RuleRecord, SymbolRecord};
+use card::record::{Card, RuleRecord, SymbolRecord};
 use card::refusal::Refusal;
 use reading::rule::read_rule_line;
 use reading::source::Source;
@@ -58,23 +57,21 @@ fn blank_tables(symbols: &mut [SymbolRecord], rules: &mut [RuleRecord])
     ensures symbols { symbols.new ≡ replicate (length symbols.old) blank_symbol }
     ensures rules { rules.new ≡ replicate (length rules.old) blank_rule }
 {
-    wipe(
-        symbols,
-        SymbolRecord {
-            name: [0; 12],
-            arity: 0,
-        },
-    );
-    wipe(
-        rules,
-        RuleRecord {
-            left: [Place::Empty; 32],
-            right: [Place::Empty; 32],
-        },
-    );
+    symbols.fill(SymbolRecord::default());
+    rules.fill(RuleRecord::default());
 }
 
 impl SymbolDraft {
+    // How many records are counted: no rules yet.
+    fn counts(&self) -> Card
+        ensures { result ≡ counts self.now.symbols 0 }
+    {
+        Card {
+            symbols: self.symbols,
+            rules: 0,
+        }
+    }
+
     // A draft without symbols.
     pub fn start(symbols: &[SymbolRecord], rules: &[RuleRecord]) -> Result<SymbolDraft, Refusal>
         ensures { MatchResult result (λ d. (d.symbols ≡ 0) × Kept symbols.now rules.now (counts 0 0)) (λ f. (f ≡ BrokenTable) × (Kept symbols.now rules.now (counts 0 0) → ⊥)) }
@@ -104,16 +101,9 @@ impl SymbolDraft {
             × Refused (Kept symbols.old rules.now (counts self.old.symbols 0))
             (symbol_line (take self.old.symbols symbols.old) (S.Source.rest line.old)) (S.Source.rest line.new) f) }
     {
+        tested(symbols, rules, self.counts())?;
         let n = self.symbols;
-        tested(
-            symbols,
-            rules,
-            Card {
-                symbols: n,
-                rules: 0,
-            },
-        )?;
-        let symbol = read_symbol_line(line, &symbols[0..n])?;
+        let symbol = read_symbol_line(line, &symbols[..n])?;
         symbols[n] = symbol;
         self.symbols = n + 1;
         Ok(())
@@ -129,21 +119,14 @@ impl SymbolDraft {
             (λ d. (d.symbols ≡ self.symbols) × (d.rules ≡ 0) × Kept symbols.now rules.now (counts self.symbols 0))
             (λ f. (f.0 ≡ BrokenTable) × (f.1 ≡ self) × (Kept symbols.now rules.now (counts self.symbols 0) → ⊥)) }
     {
-        let SymbolDraft { symbols: n } = self;
-        match tested(
-            symbols,
-            rules,
-            Card {
-                symbols: n,
-                rules: 0,
-            },
-        ) {
-            Ok(()) => Ok(RuleDraft {
-                symbols: n,
-                rules: 0,
-            }),
-            Err(refusal) => Err((refusal, SymbolDraft { symbols: n })),
+        if let Err(refusal) = tested(symbols, rules, self.counts()) {
+            return Err((refusal, self));
         }
+        let SymbolDraft { symbols: n } = self;
+        Ok(RuleDraft {
+            symbols: n,
+            rules: 0,
+        })
     }
 
     // Both tables become blank.
@@ -157,6 +140,16 @@ impl SymbolDraft {
 }
 
 impl RuleDraft {
+    // How many records are counted.
+    fn counts(&self) -> Card
+        ensures { result ≡ counts self.now.symbols self.now.rules }
+    {
+        Card {
+            symbols: self.symbols,
+            rules: self.rules,
+        }
+    }
+
     // Whether one symbol more would be too many.
     pub fn has_all_symbols(&self) -> bool
         ensures { result ≡ nat_le 64 self.now.symbols }
@@ -178,16 +171,9 @@ impl RuleDraft {
             × Refused (Kept symbols.now rules.old (counts self.old.symbols self.old.rules))
             (rule_line (take self.old.symbols symbols.now) self.old.rules (S.Source.rest line.old)) (S.Source.rest line.new) f) }
     {
+        tested(symbols, rules, self.counts())?;
         let n = self.rules;
-        tested(
-            symbols,
-            rules,
-            Card {
-                symbols: self.symbols,
-                rules: n,
-            },
-        )?;
-        let rule = read_rule_line(line, &symbols[0..self.symbols], n)?;
+        let rule = read_rule_line(line, &symbols[..self.symbols], n)?;
         rules[n] = rule;
         self.rules = n + 1;
         Ok(())
@@ -203,24 +189,15 @@ impl RuleDraft {
             (λ c. (c ≡ counts self.symbols self.rules) × Kept symbols.now rules.now c)
             (λ f. (f.0 ≡ BrokenTable) × (f.1 ≡ self) × (Kept symbols.now rules.now (counts self.symbols self.rules) → ⊥)) }
     {
-        let RuleDraft {
-            symbols: m,
-            rules: n,
-        } = self;
-        let card = Card {
-            symbols: m,
-            rules: n,
-        };
-        match tested(symbols, rules, card) {
-            Ok(()) => Ok(card),
-            Err(refusal) => Err((
-                refusal,
-                RuleDraft {
-                    symbols: m,
-                    rules: n,
-                },
-            )),
+        let card = self.counts();
+        if let Err(refusal) = tested(symbols, rules, card) {
+            return Err((refusal, self));
         }
+        let RuleDraft {
+            symbols: _,
+            rules: _,
+        } = self;
+        Ok(card)
     }
 
     // Both tables become blank.

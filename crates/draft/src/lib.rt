@@ -12,4 +12,3 @@
 
 pub mod draft;
 pub mod laws;
-pub mod wipe;

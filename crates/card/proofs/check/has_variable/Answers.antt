@@ -1,24 +1,13 @@
-use Rattle.std.proofs.Common.{◌<◌, length, sym, ◌∙◌, arith}
-use Rattle.std.proofs.lemmas.List.{at_drop_all}
-use Rattle.std.proofs.lemmas.Bool.Decides.{not_from_Decides}
-use Rattle.card.specs.Scans.{mentions}
-use Rattle.card.proofs.Sides.{mentions_further, mentions_here}
-use Rattle.card.proofs.Tables.{equals_some}
+use Rattle.std.proofs.Common.{eqb, Some, sym, ◌∙◌, rules, tests}
+use Rattle.std.specs.Option.{option_eq}
+use Rattle.std.proofs.lemmas.Iterator.{YieldsList-from_slice}
+use Rattle.std.proofs.lemmas.Iterator.Search.{any_from_yields_List}
+use Rattle.card.specs.Scans.{variable_of}
+use Rattle.card.proofs.Sides.{mentions_any}
 use Rattle.card.proofs.check.has_variable.Goals as goal
-
-pub returns-then-eq : goal.returns-then-eq
-returns-then-eq c =
-    let more : c.loop-place.place-index < length c.args.side.now = omega arith in
-    let is = (equals_some c.variable_of.result c.args.variable c.eq.result c.eq.ensures).0 c.if-eq.true in
-    sym (mentions_here c.args.side.now c.loop-place.place-index _ more c.args.variable (sym is ∙ c.variable_of.ensures))
-
-pub loop-place-preserved : goal.loop-place-preserved
-loop-place-preserved c =
-    let more : c.loop-place.place-index < length c.args.side.now = omega arith in
-    let other = not_from_Decides c.eq.result (equals_some c.variable_of.result c.args.variable c.eq.result c.eq.ensures) c.if-eq.false in
-    sym (mentions_further c.args.side.now c.loop-place.place-index _ more c.args.variable (λ e. other (c.variable_of.ensures ∙ e)))
-    ∙ c.loop-place.invariant
 
 pub returns : goal.returns
 returns c =
-    sym (at_drop_all (mentions c.args.variable) c.args.side.now c.loop-place.place-index (omega arith)) ∙ c.loop-place.invariant
+    any_from_yields_List (λ p. option_eq eqb (variable_of p) (Some c.args.variable)) _ _ c.any.result c.any.ensures.ran
+    (YieldsList-from_slice c.args.side.now cc) (λ x b q k. search (rules, tests))
+    ∙ sym (mentions_any c.args.variable c.args.side.now)

@@ -1,18 +1,12 @@
-use Rattle.std.proofs.Common.{sym, ◌∙◌}
-use Rattle.std.proofs.lemmas.List.{at_drop_all}
-use Rattle.card.specs.Records.{find_from}
-use Rattle.card.proofs.Finding.{found_further, found_here}
+use Rattle.std.proofs.Common.{sym, ◌∙◌, rules, tests}
+use Rattle.std.proofs.lemmas.Iterator.{YieldsList-from_slice}
+use Rattle.std.proofs.lemmas.Iterator.Search.{position_from_yields_List}
+use Rattle.card.specs.Bytes.{same_bytes}
+use Rattle.card.proofs.Finding.{find_from_position}
 use Rattle.card.proofs.name.find.Goals as goal
-
-pub returns-then-same_name : goal.returns-then-same_name
-returns-then-same_name c =
-    sym (found_here _ _ c.loop-i.i _ c.loop-i-test.true (sym c.if-same_name.ensures)) ∙ c.loop-i.invariant
-
-pub loop-i-preserved : goal.loop-i-preserved
-loop-i-preserved c =
-    sym (found_further _ _ c.loop-i.i _ c.loop-i-test.true (sym c.if-same_name.ensures)) ∙ c.loop-i.invariant
 
 pub returns : goal.returns
 returns c =
-    sym (at_drop_all (find_from c.args.name.now c.loop-i.i) c.args.symbols.now c.loop-i.i c.loop-i-test.false)
-    ∙ c.loop-i.invariant
+    position_from_yields_List (λ s. same_bytes s.name c.args.name.now) _ _ c.position.result c.position.ensures.ran
+    (YieldsList-from_slice c.args.symbols.now cc) (λ x b q k. search (rules, tests))
+    ∙ sym (find_from_position c.args.name.now c.args.symbols.now)

@@ -1,9 +1,9 @@
 use Rattle.std.proofs.Common.{◌≡◌, ◌+◌, ◌*◌, ◌≤◌, drop}
 use Rattle.card.specs.Records.{arities}
-use Rattle.card.proofs.Sides.{walk}
-use Rattle.card.proofs.check.is_side.Given as goal
+use Rattle.card.specs.Scans.{due_behind}
+use Rattle.card.proofs.check.due_behind.Given as goal
 
 abbrev pub invariant-loop-place : goal.invariant-loop-place
 invariant-loop-place l =
-    (walk (arities l.symbols) l.due (drop l.place-index l.side) ≡ walk (arities l.symbols) 1 l.side)
+    (due_behind (arities l.symbols) l.due (drop l.place-index l.side) ≡ due_behind (arities l.symbols) 1 l.side)
     × (l.due ≤ 1 + 255 * l.place-index)
