@@ -1,7 +1,8 @@
+pub mod Mapped
 pub mod Takes
+pub mod Phases
 pub mod LineSteps
 pub mod Handing
-pub mod Cleaned
 pub mod Placed
 pub mod Untouched
 pub mod Texts

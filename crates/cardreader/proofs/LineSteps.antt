@@ -1,5 +1,5 @@
 -- The lines of a card one by one. Assumes nothing.
-use Rattle.std.proofs.Common.{◌≡◌, ℕ, suc, ◌<◌, ◌≤◌, Bool, true, false, eqb, List, [], ◌∷◌, length, take, set, Decides, sym, refl, ap, ◌∙◌, arith}
+use Rattle.std.proofs.Common.{◌≡◌, ℕ, suc, ◌<◌, Bool, true, false, ◌==◌, eqb, List, [], ◌∷◌, length, take, set, Decides, sym, refl, ap, ◌∙◌, arith}
 use Rattle.std.specs.List.{ContainsAt as Has}
 use Rattle.std.proofs.lemmas.Bool.Decides.{Decides-by_or, Decides-eqb, same_from_decides}
 use Rattle.std.proofs.lemmas.Bool.{true≢false}
@@ -15,14 +15,11 @@ pub equals_is : (xs : List ℕ) (r : Bool) → Decides r (Has xs 61) → r ≡ h
 equals_is xs r d =
     same_from_decides r (has_equals xs) d (Decides-by_or (λ b. eqb b 61) (λ b. b ≡ 61) has_equals (λ b. Decides-eqb b 61) refl (λ _ _. refl) xs)
 
-nothing : (line : List ℕ) → length line ≤ 0 → line ≡ []
-nothing [] h = refl
-nothing (b ∷ bs) h = absurd (omega arith)
+pub not_empty : (line : List ℕ) (r : Bool) → r ≡ (length line == 0) → r ≡ false → 0 < length line
+not_empty [] r e f = absurd (true≢false (sym e ∙ f))
+not_empty (b ∷ bs) r e f = omega arith
 
 module _ (ss : List SymbolRecord) (m : ℕ) (rs : List RuleRecord) (n k : ℕ) (line : List ℕ) (ls : List (List ℕ)) where
-  pub rule_skips : length line ≤ 0 → rule_lines ss m rs n k (line ∷ ls) ≡ rule_lines ss m rs n (suc k) ls
-  rule_skips h = ap (λ l. rule_lines ss m rs n k (l ∷ ls)) (nothing line h)
-
   pub rule_misplaced : 0 < length line → has_equals line ≡ false → rule_lines ss m rs n k (line ∷ ls) ≡ refused (misplaced m) (suc k)
   rule_misplaced h e = go line h e
     where
@@ -44,9 +41,6 @@ module _ (ss : List SymbolRecord) (m : ℕ) (rs : List RuleRecord) (n k : ℕ) (
   rule_stops e f rest t = rule_there e ∙ ap (rule_step (λ q. rule_lines ss m (set rs n q) (suc n) (suc k) ls) k) t
 
 module _ (ss : List SymbolRecord) (m : ℕ) (rs : List RuleRecord) (k : ℕ) (line : List ℕ) (ls : List (List ℕ)) where
-  pub symbol_skips : length line ≤ 0 → symbol_lines ss m rs k (line ∷ ls) ≡ symbol_lines ss m rs (suc k) ls
-  symbol_skips h = ap (λ l. symbol_lines ss m rs k (l ∷ ls)) (nothing line h)
-
   pub symbols_end : has_equals line ≡ true → symbol_lines ss m rs k (line ∷ ls) ≡ rule_lines ss m rs 0 k (line ∷ ls)
   symbols_end e = go line e
     where

@@ -1,6 +1,7 @@
 pub mod CardTexts
 pub mod Taking
 pub mod Reading
+pub mod Phases
 pub mod Calls
 pub mod CardForms
 pub mod TextLaws

@@ -1,7 +1,7 @@
 -- What the lines still to come make of a draft. Assumes nothing.
 use Rattle.std.specs.Prelude.{◌≡◌, ℕ, suc, true, List, ◌∷◌, length, replicate, Option, MatchOption}
 use Rattle.std.specs.Borrow.{Bor}
-use Rattle.card.specs.Records.{blank_rule, blank_symbol, Kept}
+use Rattle.card.specs.Records.{blank_rule, blank_symbol}
 use Rattle.card.specs.declared.record.SymbolRecord.{SymbolRecord}
 use Rattle.card.specs.declared.record.RuleRecord.{RuleRecord}
 use Rattle.cardtext.specs.declared.cursor.Lines.{Lines}
@@ -17,7 +17,6 @@ rules_outcome d ss rs c = rule_lines ss d.symbols rs d.rules c.number (rest_line
 -- all of them were taken as rules
 pub record RulesRead (before after : RuleDraft) (ss : List SymbolRecord) (rs rs' : List RuleRecord) (lines : Lines) : Type 0 where
   pub same_symbols : after.symbols ≡ before.symbols
-  pub kept : Kept ss rs' (counts after.symbols after.rules)
   pub outcome : rules_outcome before ss rs lines ≡ accepted (counts after.symbols after.rules) ss rs'
 
 abbrev pub symbols_outcome : SymbolDraft → List SymbolRecord → List RuleRecord → Lines → Outcome

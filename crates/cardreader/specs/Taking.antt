@@ -1,10 +1,8 @@
 -- What one line makes of a draft whose tables keep the card's rules. Assumes nothing.
 use Rattle.std.specs.Prelude.{◌≡◌, ℕ, suc, List, take, slice_set}
-use Rattle.card.specs.Records.{Kept}
 use Rattle.card.specs.declared.record.SymbolRecord.{SymbolRecord}
 use Rattle.card.specs.declared.record.RuleRecord.{RuleRecord}
 use Rattle.card.specs.declared.refusal.Refusal.{Refusal}
-use Rattle.draft.specs.Drafts.{counts}
 use Rattle.draft.specs.declared.draft.SymbolDraft.{SymbolDraft}
 use Rattle.draft.specs.declared.draft.RuleDraft.{RuleDraft}
 use Rattle.reading.specs.declared.fault.Fault.{Fault}
@@ -17,7 +15,6 @@ pub record TakesRule (before after : RuleDraft) (ss : List SymbolRecord) (rs rs'
   pub written : rs' ≡ slice_set rs before.rules rule
   pub same_symbols : after.symbols ≡ before.symbols
   pub one_more : after.rules ≡ suc before.rules
-  pub kept : Kept ss rs' (counts after.symbols after.rules)
 
 pub record BreaksRule (before : RuleDraft) (ss : List SymbolRecord) (text : List ℕ) (f : Refusal) : Type 0 where
   pub fault : Fault
@@ -30,7 +27,6 @@ pub record TakesSymbol (before after : SymbolDraft) (rs : List RuleRecord) (ss s
   pub line : symbol_line (take before.symbols ss) text ≡ taken symbol
   pub written : ss' ≡ slice_set ss before.symbols symbol
   pub one_more : after.symbols ≡ suc before.symbols
-  pub kept : Kept ss' rs (counts after.symbols 0)
 
 pub record BreaksSymbol (before : SymbolDraft) (ss : List SymbolRecord) (text : List ℕ) (f : Refusal) : Type 0 where
   pub fault : Fault

@@ -3,12 +3,11 @@ ghost use Rattle.std.specs.Prelude.{◌≡◌, MatchResult};
 ghost use Rattle.cardreader.specs.Calls.{Admitted, CardRead, CardRefused, NotAdmitted};
 
 use crate::fault::CardFault;
-use crate::phases::take_lines;
+use crate::phase::read_lines;
 use card::record::{Card, RuleRecord, SymbolRecord};
 use card::refusal::Refusal;
 use cardtext::clean::clean;
 use draft::draft::SymbolDraft;
-use draft::wipe::wipe;
 
 // The tests that come before the first line, and a new draft behind them.
 fn begin(
@@ -41,16 +40,11 @@ pub fn read_card(
         (CardRead text.now buffer.old buffer.new symbols.old symbols.new rules.old rules.new)
         (λ f. CardRefused text.now buffer.old buffer.new symbols.old symbols.new rules.old rules.new f.refusal f.line) }
 {
-    let draft = match begin(text, buffer, symbols, rules) {
-        Ok(draft) => draft,
-        Err(refusal) => return Err(CardFault { refusal, line: 0 }),
-    };
+    let draft = begin(text, buffer, symbols, rules)?;
     let n = clean(text, buffer).unwrap();
-    match take_lines(draft, symbols, rules, &buffer[0..n]) {
-        Ok(card) => Ok(card),
-        Err(fault) => {
-            wipe(buffer, 0);
-            Err(fault)
-        }
+    let read = read_lines(draft, symbols, rules, &buffer[..n]);
+    if read.is_err() {
+        buffer.fill(0);
     }
+    read
 }
