@@ -24,7 +24,7 @@ pub struct RuleRecord {
 }
 
 // The counts of an accepted card: how many records at the front of each table belong to it.
-#[derive(Clone, Copy, PartialEq, Eq)]
+#[derive(Clone, Copy, Default, PartialEq, Eq)]
 pub struct Card {
     pub symbols: usize,
     pub rules: usize,

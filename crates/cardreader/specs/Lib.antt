@@ -1,3 +1,4 @@
+pub mod Refused
 pub mod CardTexts
 pub mod Taking
 pub mod Reading

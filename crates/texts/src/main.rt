@@ -5,88 +5,74 @@
 
 #![tactic(auto)]
 
-use card::record::{Card, Place, RuleRecord, SymbolRecord};
+use card::record::{Card, RuleRecord, SymbolRecord};
+use cardreader::fault::CardFault;
 use cardreader::reader::read_card;
-use reading::recipe::read_recipe;
+use reading::owned::read_owned_recipe;
 use std::io::Read;
 
+// What a card text is read into, and the card that was read last.
 #[derive(Drop)]
 struct Tables {
     buffer: [u8; 16384],
     symbols: [SymbolRecord; 64],
     rules: [RuleRecord; 64],
-    count: usize,
+    card: Card,
 }
 
 impl Tables {
     fn blank() -> Tables {
-        let symbol = SymbolRecord {
-            name: [0; 12],
-            arity: 0,
-        };
-        let rule = RuleRecord {
-            left: [Place::Empty; 32],
-            right: [Place::Empty; 32],
-        };
         Tables {
             buffer: [0; 16384],
-            symbols: [symbol; 64],
-            rules: [rule; 64],
-            count: 0,
+            symbols: [SymbolRecord::default(); 64],
+            rules: [RuleRecord::default(); 64],
+            card: Card::default(),
         }
     }
-}
 
-fn print_card(rt: &HostRuntime, tables: &mut Tables, text: &[u8]) -> anyhow::Result<()> {
-    match read_card(
-        text,
-        &mut tables.buffer,
-        &mut tables.symbols,
-        &mut tables.rules,
-    ) {
-        Ok(card) => {
-            let Card { symbols, rules } = card;
-            tables.count = symbols;
-            println!(rt; "card {symbols} {rules}")?;
+    fn print_card(&mut self, rt: &HostRuntime, text: &[u8]) -> anyhow::Result<()> {
+        self.card = Card::default();
+        match read_card(text, &mut self.buffer, &mut self.symbols, &mut self.rules) {
+            Ok(card) => {
+                self.card = card;
+                let Card { symbols, rules } = card;
+                println!(rt; "card {symbols} {rules}")?;
+            }
+            Err(fault) => println!(rt; "{fault}")?,
         }
-        Err(fault) => {
-            let number = fault.refusal.number();
-            let line = fault.line;
-            tables.count = 0;
-            println!(rt; "refused {number} line {line}")?;
-        }
+        Ok(())
     }
-    Ok(())
-}
 
-fn print_recipe(rt: &HostRuntime, tables: &Tables, text: &[u8]) -> anyhow::Result<()> {
-    let symbols = tables.symbols.get(0..tables.count).unwrap_or(&[]);
-    let mut places = [Place::Empty; 4096];
-    match read_recipe(text, symbols, &mut places) {
-        Ok(count) => println!(rt; "recipe {count}")?,
-        Err(refusal) => {
-            let number = refusal.number();
-            println!(rt; "refused {number} line 0")?;
+    fn print_recipe(&self, rt: &HostRuntime, text: &[u8]) -> anyhow::Result<()> {
+        let symbols = self.symbols.get(..self.card.symbols).unwrap_or(&[]);
+        match read_owned_recipe(text, symbols) {
+            Ok(recipe) => {
+                let places = recipe.places().len();
+                println!(rt; "recipe {places}")?;
+            }
+            Err(refusal) => {
+                let fault = CardFault::from(refusal);
+                println!(rt; "{fault}")?;
+            }
         }
+        Ok(())
     }
-    Ok(())
-}
 
-fn print_answer(rt: &HostRuntime, tables: &mut Tables, text: &[u8]) -> anyhow::Result<()> {
-    match text.split_first() {
-        Some((b'c', card)) => print_card(rt, tables, card),
-        Some((_, recipe)) => print_recipe(rt, tables, recipe),
-        None => Ok(()),
+    fn print_answer(&mut self, rt: &HostRuntime, text: &[u8]) -> anyhow::Result<()> {
+        match text.split_first() {
+            Some((b'c', card)) => self.print_card(rt, card),
+            Some((_, recipe)) => self.print_recipe(rt, recipe),
+            None => Ok(()),
+        }
     }
 }
 
 // A text that no byte 0 ends is passed over.
-fn print_answers(rt: &HostRuntime, tables: &mut Tables, input: &[u8]) -> anyhow::Result<()> {
-    let mut start = 0;
-    for (i, b) in input.iter().enumerate() {
-        if *b == 0 {
-            print_answer(rt, tables, &input[start..i])?;
-            start = i + 1;
+fn print_answers(rt: &HostRuntime, input: &[u8]) -> anyhow::Result<()> {
+    let mut tables = Tables::blank();
+    for text in input.split_inclusive(|b| *b == 0) {
+        if let Some(text) = text.strip_suffix(&[0]) {
+            tables.print_answer(rt, text)?;
         }
     }
     Ok(())
@@ -95,5 +81,5 @@ fn print_answers(rt: &HostRuntime, tables: &mut Tables, input: &[u8]) -> anyhow:
 fn main(rt: HostRuntime) -> anyhow::Result<()> {
     let mut input = Vec::new(rt.alloc());
     rt.stdin().read_to_end(&mut input)?;
-    print_answers(&rt, &mut Tables::blank(), &input)
+    print_answers(&rt, &input)
 }
