@@ -3,7 +3,7 @@ use Rattle.std.proofs.Common.{◌≡◌, ℕ, zero, suc, ◌+◌, ◌-◌, ◌<�
 use Rattle.std.specs.List.{list_any}
 use Rattle.std.specs.Option.{option_eq}
 use Rattle.std.proofs.lemmas.List.{at_drop_more, map-append}
-use Rattle.std.proofs.lemmas.Bool.{eqb-true, eq-eqb, lt-ltb, ltb-true, or_cases, or_left, or_right, true≢false}
+use Rattle.std.proofs.lemmas.Bool.{eqb-true, eq-eqb, lt-ltb, ltb-false, ltb-true, or_cases, or_left, or_right, true≢false}
 use Rattle.rewriting.specs.Terms.{Term, var, app, Terms, nilᵗ, consᵗ, countᵗ, occurs, occurs_in}
 use Rattle.rewriting.specs.Cards.{Signature, TermOn, TermsOn}
 use Rattle.rewriting.specs.Places as theory
@@ -210,6 +210,14 @@ pub arity_lacking : (ss : List SymbolRecord) (f : ℕ) → length ss ≤ f → a
 arity_lacking [] f h = refl
 arity_lacking (s ∷ ss) zero h = absurd (omega arith)
 arity_lacking (s ∷ ss) (suc f) h = arity_lacking ss f (omega arith)
+
+pub arity_found : (ss : List SymbolRecord) (f : ℕ) (s : SymbolRecord) → true ≡ ltb f (length ss) → s ≡ get_or ss f s
+    → arities ss f ≡ Some s.arity
+arity_found ss f s inside there =
+    arity_known ss f s (ltb-true f (length ss) (sym inside)) ∙ ap (λ r. Some r.arity) (sym there)
+
+pub arity_not_found : (ss : List SymbolRecord) (f : ℕ) → false ≡ ltb f (length ss) → arities ss f ≡ None
+arity_not_found ss f outside = arity_lacking ss f (ltb-false f (length ss) (sym outside))
 
 module _ (Σ : Signature) where
   pub due_after_known : (n f a : ℕ) → 0 < n → Σ f ≡ Some a → due_after Σ n (Symbol f) ≡ Some (a + (n - 1))

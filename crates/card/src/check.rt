@@ -48,8 +48,9 @@ fn due_after(symbols: &[SymbolRecord], due: usize, place: Place) -> Option<usize
 {
     match place {
         Place::Empty if due == 0 => Some(0),
-        Place::Symbol(f) if due > 0 && (f as usize) < symbols.len() => {
-            Some(symbols[f as usize].arity as usize + (due - 1))
+        Place::Symbol(f) if due > 0 => {
+            let symbol = symbols.get(f as usize)?;
+            Some(symbol.arity as usize + (due - 1))
         }
         Place::Variable(v) if due > 0 && v < VARIABLES => Some(due - 1),
         _ => None,
