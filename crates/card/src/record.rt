@@ -1,8 +1,9 @@
 // The rows of the two card tables.
 
 // One place of a side: nothing, or an occurrence of a symbol or of a variable, by its number.
-#[derive(Clone, Copy)]
+#[derive(Clone, Copy, Default)]
 pub enum Place {
+    #[default]
     Empty,
     Symbol(u8),
     Variable(u8),
