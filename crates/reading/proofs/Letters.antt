@@ -7,12 +7,12 @@ use Rattle.reading.specs.Sources.{first, at_letter, Taken}
 
 -- a source whose next byte is known is that byte and what comes behind it
 pub first_rest : (xs : List ℕ) (b : ℕ) → first xs ≡ Some b → xs ≡ b ∷ drop 1 xs
-first_rest [] b e = let z : ◌≡◌ {A = ℕ} 0 1 = cc in absurd (omega arith)
+first_rest [] b e = cc
 first_rest (x ∷ xs) b e = let q : x ≡ b = cc in ap (λ y. y ∷ xs) q
 
 pub first_none : (xs : List ℕ) → first xs ≡ None → xs ≡ []
 first_none [] e = refl
-first_none (x ∷ xs) e = let z : ◌≡◌ {A = ℕ} 0 1 = cc in absurd (omega arith)
+first_none (x ∷ xs) e = cc
 
 pub at_letter_first : (xs : List ℕ) (b : ℕ) → first xs ≡ Some b → at_letter xs ≡ letter b
 at_letter_first xs b e = ap at_letter (first_rest xs b e)
