@@ -6,7 +6,7 @@ pub returns-in-Ok : goal.returns-in-Ok
 returns-in-Ok c =
     let t = c.in-Ok.ensures in
     symbol_takes c.args.draft.now c.take.new.self c.args.rules.now c.args.symbols.now c.take.new.symbols _ c.args.line.now
-    (ap (λ i. drop i c.new.result.text.now) c.new.ensures.start ∙ c.new.ensures.whole) t.0 t.1
+    c.new.ensures t.0 t.1
 
 pub returns-in-Err : goal.returns-in-Err
 returns-in-Err c =
@@ -15,5 +15,5 @@ returns-in-Err c =
       t.1,
       refl,
       symbol_breaks c.args.draft.now c.args.symbols.now c.args.rules.now _ c.args.line.now _ c.in-Err.refusal
-          (ap (λ i. drop i c.new.result.text.now) c.new.ensures.start ∙ c.new.ensures.whole) c.requires t.2,
+          c.new.ensures c.requires t.2,
     )
