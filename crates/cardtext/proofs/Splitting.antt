@@ -18,9 +18,6 @@ end_is_10 b k = grind (arith, nat_tests)
 pub no_end_is_inner : (b : ℕ) → b ≢ 10 → inner b ≡ true
 no_end_is_inner b k = grind (arith, nat_tests)
 
-pub end_is_not_inner : (b : ℕ) → b ≡ 10 → inner b ≡ false
-end_is_not_inner b e = rw e
-
 -- LINE ENDS
 
 all_put_byte : (P : ℕ → Type 0) (k : Bool) (b : ℕ) (ls : List (List ℕ)) → (k ≡ true → P b) → AllByRecursion (AllByRecursion P) ls

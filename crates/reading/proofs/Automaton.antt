@@ -6,10 +6,10 @@ use Rattle.card.specs.Bytes.{letter, filled}
 use Rattle.card.specs.Records.{find_from}
 use Rattle.card.specs.declared.record.Place.{Place}
 use Rattle.card.specs.declared.record.Place.TheVariants.{Symbol}
-use Rattle.reading.specs.declared.fault.Fault.TheVariants.{NameTooLong, UnknownName, ConstantOpened, BracketMissing, TooManyChildren, TooFewChildren, TooDeep, TooManyPlaces, EarlyEnd}
+use Rattle.reading.specs.declared.fault.Fault.TheVariants.{NameTooLong, UnknownName, ConstantOpened, BracketMissing, TooDeep}
 use Rattle.reading.specs.Scanning.{Grammar, at_start, in_name, behind, Scan, whole, stuck, variable_at, scan_variable, scan_behind, scan_named, scan_judged, end_judged, arity_at, scan}
-use Rattle.reading.specs.Sources.{first, at_letter, next_is, unexpected}
-use Rattle.reading.proofs.Letters.{first_rest, first_none}
+use Rattle.reading.specs.Sources.{first, at_letter, next_is}
+use Rattle.reading.proofs.Letters.{first_rest}
 
 -- a text, by its next byte
 pub by_first : (P : List ℕ → Type 0) (xs : List ℕ) (b : ℕ) → first xs ≡ Some b → P (b ∷ drop 1 xs) → P xs
@@ -17,13 +17,6 @@ by_first P xs b e p = subst P (sym (first_rest xs b e)) p
 
 module _ (G : Grammar) where
   -- WHERE A TERM HAS TO START
-
-  pub start_at_end : (K : List ℕ) (acc : List Place) (xs : List ℕ) → first xs ≡ None → scan G (at_start K) acc xs ≡ stuck EarlyEnd xs
-  start_at_end K acc xs e = rw (first_none xs e)
-
-  pub start_full : (K : List ℕ) (acc : List Place) (xs : List ℕ) → at_letter xs ≡ true → leb G.places (length acc) ≡ true → scan G (at_start K) acc xs ≡ stuck TooManyPlaces xs
-  start_full K acc [] l f = cc
-  start_full K acc (b ∷ bs) l f = rw (l, scan) (rw f)
 
   start_named : (K : List ℕ) (acc : List Place) (b : ℕ) (bs : List ℕ) → letter b ≡ true → leb G.places (length acc) ≡ false
       → scan G (at_start K) acc (b ∷ bs) ≡ scan G (in_name (b ∷ []) K) acc bs
@@ -104,25 +97,13 @@ module _ (G : Grammar) where
   -- BEHIND A WHOLE TERM
 
   module _ (K : List ℕ) (acc : List Place) where
-    pub behind_surplus : (rest : List ℕ) → next_is 44 rest ≡ true → scan G (behind (0 ∷ K)) acc rest ≡ stuck TooManyChildren rest
-    behind_surplus [] c = cc
-    behind_surplus (b ∷ bs) c = rw (c, scan_behind)
-
     pub behind_comma : (rest : List ℕ) (j : ℕ) → next_is 44 rest ≡ true → scan G (behind (suc j ∷ K)) acc rest ≡ scan G (at_start (j ∷ K)) acc (drop 1 rest)
     behind_comma [] j c = cc
     behind_comma (b ∷ bs) j c = rw (c, scan_behind)
 
-    pub behind_early : (rest : List ℕ) (j : ℕ) → next_is 44 rest ≡ false → next_is 41 rest ≡ true → scan G (behind (suc j ∷ K)) acc rest ≡ stuck TooFewChildren rest
-    behind_early [] j c d = cc
-    behind_early (b ∷ bs) j c d = rw (c, scan_behind) (rw d)
-
     pub behind_close : (rest : List ℕ) → next_is 44 rest ≡ false → next_is 41 rest ≡ true → scan G (behind (0 ∷ K)) acc rest ≡ scan G (behind K) acc (drop 1 rest)
     behind_close [] c d = cc
     behind_close (b ∷ bs) c d = rw (c, scan_behind) (rw d)
-
-    pub behind_unexpected : (rest : List ℕ) (k : ℕ) → next_is 44 rest ≡ false → next_is 41 rest ≡ false → scan G (behind (k ∷ K)) acc rest ≡ stuck (unexpected rest) rest
-    behind_unexpected [] k c d = refl
-    behind_unexpected (b ∷ bs) k c d = rw (c, scan_behind) (rw d)
 
   -- at the top level a whole term is whole, whatever comes behind it
   pub behind_top : (acc : List Place) (rest : List ℕ) → scan G (behind []) acc rest ≡ whole acc rest

@@ -1,7 +1,6 @@
 // A recipe that was read.
 ghost use Rattle.std.specs.Prelude.{◌≡◌, take, Ok, Err, MatchResult};
-ghost use Rattle.reading.specs.RecipePlaces.{recipe_places};
-ghost use Rattle.reading.specs.Recipes.{recipe};
+ghost use Rattle.reading.specs.Recipes.{recipe, recipe_places};
 
 use crate::recipe::read_recipe;
 use arrayvec::ArrayVec;

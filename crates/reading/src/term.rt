@@ -111,7 +111,8 @@ fn end_child<S: Source>(src: &mut S, left: u8) -> Result<(), Fault>
 }
 
 // The term that comes next: its places go into `out` from `filled` on, and the answer is how many there are then.
-// `depth` brackets are open around it.
+// `depth` brackets are open around it. The count stands beside `out` since that is fixed memory of the caller's, of 32 places
+// or 4,096.
 pub fn read_term<S: Source>(
     src: &mut S,
     grammar: &Grammar<'_>,
