@@ -51,9 +51,9 @@ impl Start<'_> {
     fn read_symbol<S: Source>(self, src: &mut S) -> Result<Head, Fault>
         requires letter { at_letter (S.Source.rest src.old) ≡ true }
         requires room { self.filled < self.grammar.now.places }
-        ensures { MatchResult result
-            (λ h. HeadRead (grammar_of self.entry.grammar.now) self.entry.filled self.entry.depth (S.Source.rest src.old) (S.Source.rest src.new) h.place h.children)
-            (λ f. HeadStuck (grammar_of self.entry.grammar.now) self.entry.filled self.entry.depth (S.Source.rest src.old) (S.Source.rest src.new) f) }
+        ensures { let G = grammar_of self.entry.grammar.now in MatchResult result
+            (λ h. HeadRead G self.entry.filled self.entry.depth (S.Source.rest src.old) (S.Source.rest src.new) h.place h.children)
+            (λ f. HeadStuck G self.entry.filled self.entry.depth (S.Source.rest src.old) (S.Source.rest src.new) f) }
     {
         let name = read_name(src)?;
         let k = find(self.grammar.symbols, &name).ok_or(Fault::UnknownName)?;
@@ -73,9 +73,9 @@ impl Start<'_> {
 
     // The head of the term that comes next.
     fn read_head<S: Source>(self, src: &mut S) -> Result<Head, Fault>
-        ensures { MatchResult result
-            (λ h. HeadRead (grammar_of self.entry.grammar.now) self.entry.filled self.entry.depth (S.Source.rest src.old) (S.Source.rest src.new) h.place h.children)
-            (λ f. HeadStuck (grammar_of self.entry.grammar.now) self.entry.filled self.entry.depth (S.Source.rest src.old) (S.Source.rest src.new) f) }
+        ensures { let G = grammar_of self.entry.grammar.now in MatchResult result
+            (λ h. HeadRead G self.entry.filled self.entry.depth (S.Source.rest src.old) (S.Source.rest src.new) h.place h.children)
+            (λ f. HeadStuck G self.entry.filled self.entry.depth (S.Source.rest src.old) (S.Source.rest src.new) f) }
     {
         let b = src.peek().ok_or(Fault::EarlyEnd)?;
         if is_letter(b) {
