@@ -1,8 +1,7 @@
 -- What cleaning keeps of a text.
-use Rattle.std.proofs.Common.{◌≡◌, ℕ, suc, ◌+◌, ◌-◌, ◌<◌, ◌≤◌, Bool, true, false, cond, not, eqb, ◌≢◌, ◌⊎◌, List, [], ◌∷◌, ◌++◌, length, get_or, take, drop, set, replicate, filter, sym, refl, ap, ◌∙◌, inl, inr, zero-add, one-add, arith}
-use borrow.Rule.Slice.PartMut.{put_mid}
+use Rattle.std.proofs.Common.{◌≡◌, ℕ, suc, ◌+◌, ◌≤◌, Bool, true, false, cond, not, eqb, ◌≢◌, ◌⊎◌, List, [], ◌∷◌, ◌++◌, length, take, filter, sym, refl, ap, ◌∙◌, inl, inr, zero-add, one-add, arith}
 use Rattle.std.specs.List.{AllByRecursion}
-use Rattle.std.proofs.lemmas.List.{append_assoc, append-nil, at_drop_all, at_drop_more, drop_all, length-drop, take_more_set, take_rest}
+use Rattle.std.proofs.lemmas.List.{length-append, append-nil, length-take-le, nil_from_length}
 use Rattle.std.proofs.lemmas.List.Sums.{sum_by-cons}
 use Rattle.std.proofs.lemmas.Bool.Decides.{nat_tests}
 use Rattle.cardtext.specs.Cleaning.{before_note, blank, cleaned, CleanedLineIsWhatStandsBeforeItsNote, CleanedTextIsNoLonger, CleanedTextIsPlain, cleaned_behind, CleaningKeepsLineEnds, CleaningTwiceIsCleaningOnce, in_note, kept, line_ends, Plain, put_if}
@@ -116,53 +115,17 @@ cleaned_line_is_what_stands_before_its_note (b ∷ bs) all = go (eqb b 35) refl 
         ∙ put (blank b) (filter (λ c. not (blank c)) (before_note bs))
         ∙ ap (filter (λ c. not (blank c))) (sym more))
 
--- ONE BYTE ON
+-- COPYING
 
--- a copy that has come to place i of the text, outside a note or, where n is true, in one, and to the buffer's place `at`
-pub record Copying (text buffer : List ℕ) (i at : ℕ) (n : Bool) : Type 0 where
-  pub copied : take at buffer ++ cleaned_behind n (drop i text) ≡ cleaned text
-  pub behind : at ≤ i
+-- n bytes of a cleaned text were copied, and these are still to come
+pub copied_within : (text buffer rest : List ℕ) (n : ℕ) → n ≤ length buffer → take n buffer ++ rest ≡ cleaned text
+    → n + length rest ≤ length text
+copied_within text buffer rest n h e =
+    omega (arith, cleaned_text_is_no_longer text, simp (length-append, length-take-le n buffer h) at (ap length e))
 
-cleaned_more : (text : List ℕ) (i : ℕ) (n m k : Bool) → i < length text → m ≡ in_note n (get_or text i 0)
-    → kept n (get_or text i 0) ≡ k
-    → cleaned_behind n (drop i text) ≡ put_if k (get_or text i 0) (cleaned_behind m (drop (i + 1) text))
-cleaned_more text i n m k within step e = at_drop_more (cleaned_behind n) text i 0 within ∙ rw (e, step)
-
-module _ {text buffer : List ℕ} {i at : ℕ} {n m : Bool} (was : Copying text buffer i at n) (within : i < length text) (step : m ≡ in_note n (get_or text i 0)) where
-  pub copying_more_kept : at < length buffer → m ≡ false → blank (get_or text i 0) ≡ false
-      → Copying text (set buffer at (get_or text i 0)) (i + 1) (at + 1) m
-  copying_more_kept room outside seen =
-      let k : kept n (get_or text i 0) ≡ true = let o = sym step ∙ outside in rw (o, seen) in
-      record {
-        copied =
-            ap (λ front. front ++ cleaned_behind m (drop (i + 1) text)) (take_more_set buffer at (get_or text i 0) room)
-            ∙ append_assoc (take at buffer) (get_or text i 0 ∷ []) (cleaned_behind m (drop (i + 1) text))
-            ∙ ap (λ back. take at buffer ++ back) (sym (cleaned_more text i n m true within step k))
-            ∙ was.copied;
-        behind = omega (arith, was.behind);
-      }
-
-  pub copying_more_dropped : (m ≡ true) ⊎ (blank (get_or text i 0) ≡ true) → Copying text buffer (i + 1) at m
-  copying_more_dropped why =
-      let k : kept n (get_or text i 0) ≡ false = grind arith in
-      record {
-        copied = ap (λ back. take at buffer ++ back) (sym (cleaned_more text i n m false within step k)) ∙ was.copied;
-        behind = omega (arith, was.behind);
-      }
-
-pub copying_all : {text buffer : List ℕ} {i at : ℕ} {n : Bool} → length text ≤ i → Copying text buffer i at n
-    → take at buffer ≡ cleaned text
-copying_all {text} {buffer} {i} {at} {n} all was =
-    sym (append-nil (take at buffer))
-    ∙ ap (λ back. take at buffer ++ back) (sym (at_drop_all (cleaned_behind n) text i all))
-    ∙ was.copied
-
--- ZEROS BEHIND
-
-pub zeros_behind : (xs ys : List ℕ) (n : ℕ) → ys ≡ replicate (length (take (length xs - n) (drop n xs))) 0
-    → put_mid n (length xs - n) xs ys ≡ take n xs ++ replicate (length xs - n) 0
-zeros_behind xs ys n zeros =
-    let all : length (take (length xs - n) (drop n xs)) ≡ length xs - n = ap length (take_rest xs n) ∙ length-drop n xs in
-    let none : drop (length xs - n) (drop n xs) ≡ [] = drop_all (length xs - n) (drop n xs) (simp length-drop (omega arith)) in
-    ap (λ back. take n xs ++ (ys ++ back)) none
-    ∙ ap (λ back. take n xs ++ back) (append-nil ys ∙ zeros ∙ ap (λ k. replicate k 0) all)
+-- a full buffer, no shorter than the text, has all that is kept
+pub copied_all : (text buffer rest : List ℕ) (n : ℕ) → n ≡ length buffer → length text ≤ n → take n buffer ++ rest ≡ cleaned text
+    → take n buffer ≡ cleaned text
+copied_all text buffer rest n full room e =
+    let none : rest ≡ [] = nil_from_length rest (omega (arith, copied_within text buffer rest n (omega arith) e)) in
+    rw (none, append-nil) at e

@@ -1,7 +1,9 @@
 -- What the lines of a text are.
-use Rattle.std.proofs.Common.{◌≡◌, ℕ, suc, ◌+◌, ◌<◌, ◌≤◌, Bool, true, false, cond, ◌≢◌, List, [], ◌∷◌, ◌++◌, length, take, drop, sym, refl, ap, ◌∙◌, arith}
-use Rattle.std.specs.List.{prefix_len, AllByRecursion}
-use Rattle.std.proofs.lemmas.List.{drop_all, length-drop}
+use Rattle.std.proofs.Common.{◌≡◌, ℕ, suc, ◌+◌, ◌<◌, Bool, true, false, cond, ◌≢◌, List, [], ◌∷◌, ◌++◌, Some, None, ◌==◌, length, take, drop, refl, ap, ◌∙◌, arith}
+use Rattle.std.specs.List.{prefix_len, position, AllByRecursion}
+use Rattle.std.proofs.lemmas.List.{drop_all, take_all}
+use Rattle.std.proofs.lemmas.List.Sums.{prefix_len-le-length}
+use borrow.Author.Tests.{ltb-false}
 use Rattle.std.proofs.lemmas.Bool.Decides.{nat_tests}
 use Rattle.cardtext.specs.Lines.{Ended, inner, joined_lines, lines, LinesMakeTheText, NoLineHasALineEnd, put_byte}
 
@@ -15,9 +17,6 @@ end_is_10 b k = grind (arith, nat_tests)
 
 pub no_end_is_inner : (b : ℕ) → b ≢ 10 → inner b ≡ true
 no_end_is_inner b k = grind (arith, nat_tests)
-
-pub end_is_not_inner : (b : ℕ) → b ≡ 10 → inner b ≡ false
-end_is_not_inner b e = rw e
 
 -- LINE ENDS
 
@@ -75,25 +74,25 @@ pub first_line : (b : ℕ) (bs : List ℕ)
 first_line b [] = first_of_one (inner b) b
 first_line b (c ∷ cs) = first_of_more (inner b) b (c ∷ cs) (prefix_len inner (c ∷ cs)) (first_line c cs)
 
--- a cursor goes on behind the line's end, or at the text's end if the line has none
-pub record GoesOn (text : List ℕ) (n to : ℕ) : Type 0 where
-  pub behind : drop (n + 1) text ≡ drop to text
-  pub less : length (drop to text) < length text
+some_is : {n : ℕ} (t : Bool) (m : ℕ) → cond t (Some m) None ≡ Some n → m ≡ n
+some_is true m e = cc
+some_is false m e = cc
 
-pub goes_on_behind_end : (text : List ℕ) (n to : ℕ) → n < length text → to ≡ n + 1 → GoesOn text n to
-goes_on_behind_end text n to h e = record { behind = ap (λ i. drop i text) (sym e); less = simp length-drop (omega arith) }
+none_is : (t : Bool) (m : ℕ) → cond t (Some m) None ≡ None → t ≡ false
+none_is true m e = cc
+none_is false m e = refl
 
-pub goes_on_at_end : (text : List ℕ) (n to : ℕ) → (length text ≡ 0 → ⊥) → length text ≤ n → to ≡ n → GoesOn text n to
-goes_on_at_end text n to some h e =
-    record {
-      behind = drop_all (n + 1) text (omega arith) ∙ sym (drop_all to text (omega arith));
-      less = simp length-drop (omega arith);
-    }
+-- the first line of a text, by the place of the first line end
+pub first_line_before : (text : List ℕ) (n : ℕ) → position (λ b. b == 10) text ≡ Some n → lines text ≡ take n text ∷ lines (drop (n + 1) text)
+first_line_before [] n e = cc
+first_line_before (b ∷ bs) n e =
+    let is = some_is _ _ e in
+    rw is at (first_line b bs)
 
-pub first_line_of : (text : List ℕ) (n to : ℕ) → (length text ≡ 0 → ⊥) → n ≡ prefix_len inner text → GoesOn text n to
-    → lines text ≡ take n text ∷ lines (drop to text)
-first_line_of [] n to some is on = absurd (some refl)
-first_line_of (b ∷ bs) n to some is on =
-    first_line b bs
-    ∙ ap (λ m. take m (b ∷ bs) ∷ lines (drop (m + 1) (b ∷ bs))) (sym is)
-    ∙ ap (λ rest. take n (b ∷ bs) ∷ lines rest) on.behind
+-- a text without a line end is one line
+pub one_line : (text : List ℕ) → 0 < length text → position (λ b. b == 10) text ≡ None → lines text ≡ text ∷ []
+one_line [] some e = absurd (omega arith)
+one_line (b ∷ bs) some e =
+    let all : prefix_len inner (b ∷ bs) ≡ length (b ∷ bs) =
+    omega (arith, prefix_len-le-length inner (b ∷ bs), ltb-false _ _ (none_is _ _ e)) in
+    rw all at (first_line b bs) ∙ rw (take_all (length (b ∷ bs)) (b ∷ bs) (omega arith), drop_all (length (b ∷ bs) + 1) (b ∷ bs) (omega arith))

@@ -1,6 +1,6 @@
 -- A card text without its blanks, tabs and notes. Assumes nothing.
-use Rattle.std.specs.Prelude.{◌≡◌, ℕ, ◌-◌, ◌<◌, ◌≤◌, Bool, true, false, not, ◌&&◌, ◌||◌, ◌≢◌, List, [], ◌∷◌, ◌++◌, length, take, replicate, count_by, filter, ◌==◌, nat_eq}
-use Rattle.std.specs.List.{prefix_len, AllByRecursion}
+use Rattle.std.specs.Prelude.{◌≡◌, ℕ, ◌-◌, ◌<◌, ◌≤◌, Bool, true, false, not, ◌&&◌, ◌||◌, ◌≢◌, List, [], ◌∷◌, ◌++◌, length, replicate, count_by, filter, ◌==◌, nat_eq}
+use Rattle.std.specs.List.{before_first, AllByRecursion}
 
 -- a blank or a tab
 abbrev pub blank : ℕ → Bool
@@ -66,7 +66,7 @@ CleaningTwiceIsCleaningOnce = (text : List ℕ) → cleaned (cleaned text) ≡ c
 
 -- a line up to its first "#"
 abbrev pub before_note : List ℕ → List ℕ
-before_note line = take (prefix_len (λ b. not (b == 35)) line) line
+before_note = before_first (λ b. b == 35)
 
 -- of one line the bytes before the first "#" are kept, but for blanks and tabs
 abbrev pub CleanedLineIsWhatStandsBeforeItsNote : Type 0

@@ -1,6 +1,7 @@
 // The cleaner: a text without its blanks, tabs and notes.
 ghost use Rattle.std.specs.Prelude.{◌≡◌, ◌≤◌, length, take, MatchOption};
-ghost use Rattle.cardtext.specs.Cleaning.{blank, cleaned, Holds, in_note, TooShort};
+ghost use Rattle.std.specs.Iterator.{item_count, YieldsFirst};
+ghost use Rattle.cardtext.specs.Cleaning.{blank, cleaned, cleaned_behind, Holds, in_note, TooShort};
 
 // Whether a byte is part of a note, where `noted` says it of the byte before.
 fn is_noted(noted: bool, b: u8) -> bool
@@ -12,7 +13,34 @@ fn is_noted(noted: bool, b: u8) -> bool
 fn is_blank(b: u8) -> bool
     ensures { result ≡ blank b }
 {
-    b == b' ' || b == b'\t'
+    matches!(b, b' ' | b'\t')
+}
+
+// The bytes of a text that are kept.
+#[derive(Drop)]
+struct Kept<'a> {
+    text: &'a [u8],
+    // whether the byte before the text is part of a note
+    noted: bool,
+}
+
+impl Iterator for Kept<'_> {
+    type Item = u8;
+
+    ghost next_gives = { YieldsFirst (λ s. cleaned_behind s.noted s.text.now) };
+
+    ghost remaining = { item_count (λ s. cleaned_behind s.noted s.text.now) };
+
+    fn next(&mut self) -> Option<u8> {
+        while let Some((b, text)) = self.text.split_first() {
+            self.text = text;
+            self.noted = is_noted(self.noted, *b);
+            if !self.noted && !is_blank(*b) {
+                return Some(*b);
+            }
+        }
+        None
+    }
 }
 
 // Copies what is kept of the text to the buffer's front, and answers how much that is.
@@ -21,16 +49,14 @@ fn copy_kept(text: &[u8], buffer: &mut [u8]) -> usize
     ensures kept { take result buffer.new ≡ cleaned text.now }
     ensures within { result ≤ length text.now }
 {
-    let mut at = 0;
-    let mut noted = false;
-    for b in text {
-        noted = is_noted(noted, *b);
-        if !noted && !is_blank(*b) {
-            buffer[at] = *b;
-            at += 1;
-        }
+    let mut kept = Kept { text, noted: false };
+    for (n, slot) in buffer.iter_mut().enumerate() {
+        let Some(b) = kept.next() else {
+            return n;
+        };
+        *slot = b;
     }
-    at
+    buffer.len()
 }
 
 // Cleans the text into the buffer, with zeros behind, and answers the cleaned text's length. A buffer that is shorter

@@ -1,5 +1,5 @@
 -- A text is accepted exactly if it is the written form of an allowed term. Assumes nothing.
-use Rattle.std.proofs.Common.{◌≡◌, ℕ, ◌≤◌, Bool, true, false, ltb, ◌↔◌, List, [], ◌∷◌, ◌++◌, map, length, Ok, Err, Result, sym, refl, ap, ◌∙◌, ap₂, append-nil, arith}
+use Rattle.std.proofs.Common.{◌≡◌, ℕ, false, ltb, ◌↔◌, List, [], ◌∷◌, ◌++◌, map, length, Ok, sym, refl, ap, ◌∙◌, append-nil, arith}
 use Rattle.rewriting.specs.Terms.{Term}
 use Rattle.rewriting.specs.Places as theory
 use Rattle.rewriting.proofs.Reading.{forest_of_places}
@@ -7,17 +7,12 @@ use Rattle.card.specs.Records.{arities, stored}
 use Rattle.card.specs.declared.record.Place.{Place}
 use Rattle.card.specs.declared.record.Place.TheVariants.{Empty, Symbol, Variable}
 use Rattle.card.specs.declared.record.SymbolRecord.{SymbolRecord}
-use Rattle.card.specs.declared.refusal.Refusal.{Refusal}
-use Rattle.card.specs.declared.refusal.Refusal.TheVariants.{TextTooLong}
-use Rattle.std.proofs.lemmas.Bool.{lt-leb}
-use Rattle.reading.specs.declared.fault.Fault.{Fault}
-use Rattle.reading.specs.Faults.{refusal_of}
-use Rattle.reading.specs.Progress.{Stopped}
 use Rattle.reading.specs.Recipes.{recipe_grammar, recipe_read, recipe}
 use Rattle.reading.specs.Scanning.{Grammar, at_start, Scan, whole, stuck, scan}
 use Rattle.reading.specs.Written.{written, Allowed, TextOf, ProperSymbols}
 use Rattle.reading.proofs.Automaton.{behind_top}
 use Rattle.reading.proofs.Spelling.{term_read, ends_nothing}
+use Rattle.reading.proofs.Tests.{chosen}
 use Rattle.reading.proofs.Peeling.{text_peeled}
 
 -- what a stored place stands for
@@ -59,28 +54,17 @@ module _ (G : Grammar) (proper : ProperSymbols G.symbols) where
 
 module _ (ss : List SymbolRecord) (text : List ℕ) (ps : List Place) where
   read_whole : (r : Scan) → recipe_read r ≡ Ok ps → r ≡ whole ps []
-  read_whole (stuck f rest) e = let z : ◌≡◌ {A = ℕ} 0 1 = cc in absurd (omega arith)
+  read_whole (stuck f rest) e = cc
   read_whole (whole qs []) e = let q : qs ≡ ps = cc in ap (λ x. whole x []) q
-  read_whole (whole qs (b ∷ bs)) e = let z : ◌≡◌ {A = ℕ} 0 1 = cc in absurd (omega arith)
+  read_whole (whole qs (b ∷ bs)) e = cc
 
   -- an accepted recipe is a tree's written form, whatever the symbols are
   pub recipe_told : recipe ss text ≡ Ok ps → (ltb 4096 (length text) ≡ false) × TextOf (recipe_grammar ss) text ps
-  recipe_told e = to (ltb 4096 (length text)) refl e
-    where
-      to : (b : Bool) → ltb 4096 (length text) ≡ b
-          → elim b as (λ x. Result (List Place) Refusal) [ true ↦ Err TextTooLong | false ↦ recipe_read (scan (recipe_grammar ss) (at_start []) [] text) ] ≡ Ok ps
-          → (ltb 4096 (length text) ≡ false) × TextOf (recipe_grammar ss) text ps
-      to true l e = let z : ◌≡◌ {A = ℕ} 0 1 = cc in absurd (omega arith)
-      to false l e = (l, text_peeled (recipe_grammar ss) text ps (read_whole (scan (recipe_grammar ss) (at_start []) [] text) e))
+  recipe_told =
+      chosen (ltb 4096 (length text)) (λ l e. cc)
+      (λ l e. (l, text_peeled (recipe_grammar ss) text ps (read_whole (scan (recipe_grammar ss) (at_start []) [] text) e)))
 
 pub recipe_exactly : (ss : List SymbolRecord) → ProperSymbols ss → (text : List ℕ) (ps : List Place)
     → (recipe ss text ≡ Ok ps → (ltb 4096 (length text) ≡ false) × TextOf (recipe_grammar ss) text ps)
     × (ltb 4096 (length text) ≡ false → TextOf (recipe_grammar ss) text ps → recipe ss text ≡ Ok ps)
 recipe_exactly ss proper text ps = (recipe_told ss text ps, λ l t. rw (l, recipe) (ap recipe_read ((accepted_exactly (recipe_grammar ss) proper text ps).1 t)))
-
--- a recipe at which the reader stopped
-pub recipe_stuck : (G : Grammar) (ss : List SymbolRecord) (text rest after : List ℕ) (out : List Place) (f : Fault)
-    → length text ≤ 4096 → G ≡ recipe_grammar ss → rest ≡ text → Stopped G at_start 0 0 out rest after f → recipe ss text ≡ Err (refusal_of f)
-recipe_stuck G ss text rest after out f h g e s =
-    let l : ltb 4096 (length text) ≡ false = lt-leb 4097 (length text) (omega arith) in
-    rw (l, recipe) (ap recipe_read (ap₂ (λ H xs. scan H (at_start []) [] xs) (sym g) (sym e) ∙ s [] refl))

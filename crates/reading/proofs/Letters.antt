@@ -3,19 +3,16 @@ use Rattle.std.proofs.Common.{◌≡◌, ℕ, suc, ◌+◌, ◌-◌, ◌<◌, tr
 use Rattle.std.proofs.lemmas.List.{set_at}
 use Rattle.std.proofs.ByRecursion.{All-push}
 use Rattle.card.specs.Bytes.{letter, filled}
-use Rattle.reading.specs.Sources.{first, at_letter, Taken}
+use Rattle.reading.specs.Sources.{first, Taken}
 
 -- a source whose next byte is known is that byte and what comes behind it
 pub first_rest : (xs : List ℕ) (b : ℕ) → first xs ≡ Some b → xs ≡ b ∷ drop 1 xs
-first_rest [] b e = let z : ◌≡◌ {A = ℕ} 0 1 = cc in absurd (omega arith)
+first_rest [] b e = cc
 first_rest (x ∷ xs) b e = let q : x ≡ b = cc in ap (λ y. y ∷ xs) q
 
 pub first_none : (xs : List ℕ) → first xs ≡ None → xs ≡ []
 first_none [] e = refl
-first_none (x ∷ xs) e = let z : ◌≡◌ {A = ℕ} 0 1 = cc in absurd (omega arith)
-
-pub at_letter_first : (xs : List ℕ) (b : ℕ) → first xs ≡ Some b → at_letter xs ≡ letter b
-at_letter_first xs b e = ap at_letter (first_rest xs b e)
+first_none (x ∷ xs) e = cc
 
 -- a name filled with zeros, with one letter more
 pub filled_more : (w : List ℕ) (b : ℕ) → length w < 12 → set (filled w) (length w) b ≡ filled (w ++ (b ∷ []))

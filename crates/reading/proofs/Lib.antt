@@ -1,3 +1,4 @@
+pub mod Tests
 pub mod Letters
 pub mod Automaton
 pub mod Spelling

@@ -1,28 +1,27 @@
 -- A text that is read to a whole term begins with that term's written form. Assumes nothing.
-use Rattle.std.proofs.Common.{◌≡◌, ℕ, zero, suc, ◌+◌, ◌-◌, ◌<◌, ◌≤◌, max, Bool, true, false, leb, List, [], ◌∷◌, ◌++◌, map, length, get_or, drop, Some, None, Ok, Err, Option, Result, sym, refl, ap, ◌∙◌, subst, ap₂, ⊎_elim, append_assoc, append-nil, arith, length-append, MatchOption}
+use Rattle.std.proofs.Common.{◌≡◌, ℕ, zero, suc, ◌+◌, ◌-◌, ◌<◌, ◌≤◌, max, Bool, true, false, eqb, leb, List, [], ◌∷◌, ◌++◌, map, length, get_or, drop, Some, None, Ok, Err, Option, Result, sym, refl, ap, ◌∙◌, subst, ap₂, ⊎_elim, append_assoc, append-nil, arith, length-append}
 use Rattle.std.specs.List.{AllByRecursion}
-use Rattle.std.proofs.lemmas.Bool.{leb-true, leb-false, eqb-true, and_parts, or_cases, cases_lt, true≢false}
+use Rattle.std.proofs.lemmas.Bool.{leb-true, leb-false, eqb-true, and_parts, or_cases, cases_lt}
 use Rattle.std.proofs.lemmas.List.{length-map, map-append}
 use Rattle.rewriting.specs.Terms.{Term, var, app, Terms, nilᵗ, consᵗ, countᵗ, occurs, occurs_in}
 use Rattle.rewriting.specs.Cards.{TermOn, TermsOn}
 use Rattle.rewriting.specs.Places as theory
 use Rattle.card.specs.Bytes.{letter, filled, letters_of}
-use Rattle.card.specs.Records.{arities, blank_symbol, stored, find_from, name_of}
+use Rattle.card.specs.Records.{arities, stored, find_from, name_of}
 use Rattle.card.specs.declared.record.Place.{Place}
 use Rattle.card.specs.declared.record.Place.TheVariants.{Symbol, Variable}
 use Rattle.card.specs.declared.record.SymbolRecord.{SymbolRecord}
-use Rattle.card.proofs.Finding.{name_is_found_exactly}
 use Rattle.reading.specs.declared.fault.Fault.{Fault}
-use Rattle.reading.specs.declared.fault.Fault.TheVariants.{WrongByte, TooManyPlaces, UnboundVariable, NameTooLong}
 use Rattle.reading.specs.Scanning.{Grammar, at_start, in_name, behind, Scan, whole, stuck, scan, arity_at, variable_at, scan_variable, variable_letter}
 use Rattle.reading.specs.Sources.{next_is}
 use Rattle.reading.specs.Written.{written, written_rest, nesting, nesting_rest, May, Allowed, TextOf}
-use Rattle.reading.proofs.Automaton.{judged, judged_unknown, judged_opened_constant, judged_constant, judged_missing, judged_deep, judged_open, behind_surplus, behind_comma, behind_early, behind_close, behind_unexpected, behind_top}
+use Rattle.reading.proofs.Tests.{chosen}
+use Rattle.reading.proofs.Automaton.{judged, judged_unknown, judged_opened_constant, judged_constant, judged_missing, judged_deep, judged_open, behind_top}
 use Rattle.card.proofs.Naming.{letters_of_filled}
-use Rattle.reading.proofs.Spelling.{found_arity, spread}
+use Rattle.reading.proofs.Spelling.{found_arity, found_at, spread}
 
 never : {A : Type 0} {f : Fault} {xs : List ℕ} {acc : List Place} {rest : List ℕ} → stuck f xs ≡ whole acc rest → A
-never e = let z : ◌≡◌ {A = ℕ} 0 1 = cc in absurd (omega arith)
+never e = cc
 
 -- a byte that is read as a variable is its letter
 record VariableRead (o : Option (List Bool)) (limit n b v : ℕ) : Type 0 where
@@ -31,29 +30,19 @@ record VariableRead (o : Option (List Bool)) (limit n b v : ℕ) : Type 0 where
   pub room : n < limit
 
 variable_read : (o : Option (List Bool)) (limit n b v : ℕ) → variable_at o limit n b ≡ Ok v → VariableRead o limit n b v
-variable_read None limit n b v e = let z : ◌≡◌ {A = ℕ} 0 1 = cc in absurd (omega arith)
-variable_read (Some may) limit n b v e = go (variable_letter b) refl (leb limit n) refl (get_or may (b - 65) false) refl e
-  where
-    go : (x : Bool) → variable_letter b ≡ x → (y : Bool) → leb limit n ≡ y → (z : Bool) → get_or may (b - 65) false ≡ z
-        → elim x as (λ q. Result ℕ Fault) [
-          | false ↦ Err WrongByte
-          | true ↦
-              elim y as (λ q. Result ℕ Fault) [
-                | true ↦ Err TooManyPlaces
-                | false ↦
-                    elim z as (λ q. Result ℕ Fault) [ false ↦ Err UnboundVariable | true ↦ Ok (b - 65) ]
-              ]
-        ] ≡ Ok v
-        → VariableRead (Some may) limit n b v
-    go false p y q z r k = let u : ◌≡◌ {A = ℕ} 0 1 = cc in absurd (omega arith)
-    go true p true q z r k = let u : ◌≡◌ {A = ℕ} 0 1 = cc in absurd (omega arith)
-    go true p false q false r k = let u : ◌≡◌ {A = ℕ} 0 1 = cc in absurd (omega arith)
-    go true p false q true r k =
-        let s : b - 65 ≡ v = cc in
-        let ab = and_parts (leb 65 b) (leb b 72) p in
-        let lo = leb-true 65 b ab.0 in
-        let hi = leb-true b 72 ab.1 in
-        record { may = (omega arith, subst (λ m. get_or may m false ≡ true) s r); byte = omega arith; room = leb-false limit n q }
+variable_read None limit n b v = λ e. cc
+variable_read (Some may) limit n b v =
+    chosen (variable_letter b)
+    (λ p. chosen (leb limit n) (λ q k. cc)
+    (λ q. chosen (get_or may (b - 65) false)
+    (λ r k.
+    let s : b - 65 ≡ v = cc in
+    let ab = and_parts (leb 65 b) (leb b 72) p in
+    let lo = leb-true 65 b ab.0 in
+    let hi = leb-true b 72 ab.1 in
+    record { may = (omega arith, subst (λ m. get_or may m false ≡ true) s r); byte = omega arith; room = leb-false limit n q })
+    (λ r k. cc)))
+    (λ p k. cc)
 
 module _ (G : Grammar) where
   abbrev ss : List SymbolRecord
@@ -92,19 +81,12 @@ module _ (G : Grammar) where
 
   peel_name : (w K : List ℕ) (acc : List Place) (text : List ℕ) (acc' : List Place) (rest : List ℕ) → length w ≤ 12
       → scan G (in_name w K) acc text ≡ whole acc' rest → NamePeeled w K acc text (whole acc' rest)
-  peel_name w K acc [] acc' rest h e = name_ends w K acc [] (whole acc' rest) h e
-  peel_name w K acc (b ∷ bs) acc' rest h e = go (λ k. peel_name (w ++ (b ∷ [])) K acc bs acc' rest k) (letter b) refl (leb 12 (length w)) refl e
-    where
-      go : (length (w ++ (b ∷ [])) ≤ 12 → scan G (in_name (w ++ (b ∷ [])) K) acc bs ≡ whole acc' rest → NamePeeled (w ++ (b ∷ [])) K acc bs (whole acc' rest))
-          → (x : Bool) → letter b ≡ x → (y : Bool) → leb 12 (length w) ≡ y
-          → elim x as (λ q. Scan) [
-            | true ↦ elim y as (λ q. Scan) [ true ↦ stuck NameTooLong (b ∷ bs) | false ↦ scan G (in_name (w ++ (b ∷ [])) K) acc bs ]
-            | false ↦ judged G K acc (find_from (filled w) 0 ss) (b ∷ bs)
-          ] ≡ whole acc' rest
-          → NamePeeled w K acc (b ∷ bs) (whole acc' rest)
-      go rec true l true f k = never k
-      go rec true l false f k = name_longer w K acc b bs (whole acc' rest) l (rec (omega (arith, length-append w (b ∷ []), leb-false 12 (length w) f)) k)
-      go rec false l y f k = name_ends w K acc (b ∷ bs) (whole acc' rest) h k
+  peel_name w K acc [] acc' rest h = name_ends w K acc [] (whole acc' rest) h
+  peel_name w K acc (b ∷ bs) acc' rest h =
+      chosen (letter b)
+      (λ l. chosen (leb 12 (length w)) (λ f k. never k)
+      (λ f k. name_longer w K acc b bs (whole acc' rest) l (peel_name (w ++ (b ∷ [])) K acc bs acc' rest (omega (arith, length-append w (b ∷ []), leb-false 12 (length w) f)) k)))
+      (λ l k. name_ends w K acc (b ∷ bs) (whole acc' rest) h k)
 
   -- a term was read off the front of a text
   record Peeled (K : List ℕ) (acc : List Place) (text : List ℕ) (r : Scan) : Type 0 where
@@ -152,7 +134,7 @@ module _ (G : Grammar) where
       record {
         term = app k nilᵗ;
         on = (found_arity ss k h ∙ ap Some a, tt);
-        variables = λ v q. absurd (true≢false (sym q));
+        variables = λ v q. cc;
         places_left = omega arith;
         brackets_left = omega arith;
         back = back;
@@ -160,6 +142,10 @@ module _ (G : Grammar) where
         spelled = e ∙ ap (λ w. w ++ back) (sym (append-nil (name_of ss k)));
         goes = g;
       }
+
+  -- a bracket holds the first child and the others
+  deeper : (m : ℕ) (K : List ℕ) (x y : ℕ) → length (m ∷ K) + x ≤ G.brackets → length K + suc y ≤ G.brackets → length K + suc (max x y) ≤ G.brackets
+  deeper m K x y a b = omega arith
 
   -- a symbol with its bracket, its first child and the others
   peeled_application : {r₁ r : Scan} (K : List ℕ) (acc : List Place) (text inner : List ℕ) (k m : ℕ) → k < length ss → arity_at ss k ≡ suc m
@@ -178,7 +164,7 @@ module _ (G : Grammar) where
         on = (found_arity ss k h ∙ ap Some (a ∙ ap suc (sym q.as_many)), (p.on, q.on));
         variables = λ v x. ⊎_elim (p.variables v) (q.variables v) (or_cases (occurs v t) (occurs_in v ts) x);
         places_left = omega (arith, q.places_left);
-        brackets_left = deeper (nesting t) (nesting_rest ts) p.brackets_left q.brackets_left;
+        brackets_left = deeper m K (nesting t) (nesting_rest ts) p.brackets_left q.brackets_left;
         back = q.back;
         shorter = omega (arith, p.shorter, q.shorter);
         spelled =
@@ -186,14 +172,11 @@ module _ (G : Grammar) where
             ∙ sym (append_assoc (name_of ss k) (40 ∷ (written ss t ++ written_rest ss ts)) q.back));
         goes = ap (λ x. scan G (behind K) x q.back) (sym (spread acc k t ts)) ∙ q.goes;
       }
-    where
-      deeper : (x y : ℕ) → length (m ∷ K) + x ≤ G.brackets → length K + suc y ≤ G.brackets → length K + suc (max x y) ≤ G.brackets
-      deeper x y a b = omega arith
 
   -- one child more
   rest_longer : {r₁ r : Scan} (K : List ℕ) (acc : List Place) (text : List ℕ) (m : ℕ) → next_is 44 text ≡ true
       → (p : Peeled (m ∷ K) acc (drop 1 text) r₁) → RestPeeled m K (acc ++ map stored (theory.places p.term)) p.back r → RestPeeled (suc m) K acc text r
-  rest_longer {r = r} K acc [] m c p q = absurd (true≢false (sym c))
+  rest_longer {r = r} K acc [] m c p q = cc
   rest_longer {r = r} K acc (b ∷ bs) m c p q =
       let t = p.term in
       let ts = q.terms in
@@ -206,7 +189,7 @@ module _ (G : Grammar) where
         on = (p.on, q.on);
         variables = λ v x. ⊎_elim (p.variables v) (q.variables v) (or_cases (occurs v t) (occurs_in v ts) x);
         places_left = omega (arith, q.places_left);
-        brackets_left = deeper (nesting t) (nesting_rest ts) p.brackets_left q.brackets_left;
+        brackets_left = deeper m K (nesting t) (nesting_rest ts) p.brackets_left q.brackets_left;
         back = q.back;
         shorter = omega (arith, p.shorter, q.shorter);
         spelled =
@@ -216,18 +199,15 @@ module _ (G : Grammar) where
             (ap (λ x. acc ++ x) (map-append stored (theory.places t) (theory.places_of ts)) ∙ sym (append_assoc acc (map stored (theory.places t)) (map stored (theory.places_of ts))))
             ∙ q.goes;
       }
-    where
-      deeper : (x y : ℕ) → length (m ∷ K) + x ≤ G.brackets → length K + suc y ≤ G.brackets → length K + suc (max x y) ≤ G.brackets
-      deeper x y a b = omega arith
 
   rest_closed : (r : Scan) (K : List ℕ) (acc : List Place) (text : List ℕ) → length acc ≤ G.places → length K < G.brackets → next_is 41 text ≡ true → scan G (behind K) acc (drop 1 text) ≡ r → RestPeeled 0 K acc text r
-  rest_closed r K acc [] room d c e = absurd (true≢false (sym c))
+  rest_closed r K acc [] room d c e = cc
   rest_closed r K acc (b ∷ bs) room d c e =
       record {
         terms = nilᵗ;
         as_many = refl;
         on = tt;
-        variables = λ v x. absurd (true≢false (sym x));
+        variables = λ v x. cc;
         places_left = omega arith;
         brackets_left = omega arith;
         back = bs;
@@ -238,13 +218,10 @@ module _ (G : Grammar) where
 
   -- what the card says of the name that was read
   found_name : (w : List ℕ) (k : ℕ) → AllByRecursion (λ b. letter b ≡ true) w → find_from (filled w) 0 ss ≡ Some k → (k < length ss) × (name_of ss k ≡ w)
-  found_name w k all e =
-      let f = subst (λ o. MatchOption o ((i : ℕ) → i < length ss → (get_or ss i blank_symbol).name ≡ filled w → ⊥) (λ i. (i < length ss) × ((get_or ss i blank_symbol).name ≡ filled w)))
-      e (name_is_found_exactly (filled w) ss) in
-      (f.0, ap letters_of f.1 ∙ letters_of_filled w (12 - length w) all)
+  found_name w k all e = let f = found_at ss (filled w) k e in (f.0, ap letters_of f.1 ∙ letters_of_filled w (12 - length w) all)
 
   bracket_taken : (xs : List ℕ) → next_is 40 xs ≡ true → xs ≡ 40 ∷ drop 1 xs
-  bracket_taken [] c = absurd (true≢false (sym c))
+  bracket_taken [] c = cc
   bracket_taken (b ∷ bs) c = ap (λ x. x ∷ bs) (eqb-true b 40 c)
 
   -- a head with its bracket was read off the front: the first child has to start
@@ -304,23 +281,16 @@ module _ (G : Grammar) where
       peel_found K acc acc' rest b bs p.letters p.back d room (l, p.each) p.spelled (find_from (filled (b ∷ p.letters)) 0 ss) refl p.judged_is
 
   peel_head : (text : List ℕ) (K : List ℕ) (acc acc' : List Place) (rest : List ℕ) → length K ≤ G.brackets → scan G (at_start K) acc text ≡ whole acc' rest → HeadPeeled K acc text (whole acc' rest)
-  peel_head [] K acc acc' rest d e = never e
-  peel_head (b ∷ bs) K acc acc' rest d e = go (letter b) refl (leb G.places (length acc)) refl e
+  peel_head [] K acc acc' rest d = never
+  peel_head (b ∷ bs) K acc acc' rest d =
+      chosen (letter b)
+      (λ l. chosen (leb G.places (length acc)) (λ f k. never k) (λ f k. peel_named K acc acc' rest b bs d l (leb-false G.places (length acc) f) k))
+      (λ l k. by_variable (variable_at G.variables G.places (length acc) b) refl k)
     where
       by_variable : (o : Result ℕ Fault) → variable_at G.variables G.places (length acc) b ≡ o
           → scan_variable (λ acc₁. scan G (behind K) acc₁ bs) o acc (b ∷ bs) ≡ whole acc' rest → HeadPeeled K acc (b ∷ bs) (whole acc' rest)
       by_variable (Ok v) q k = alone (peeled_variable K acc b bs (whole acc' rest) v d (variable_read G.variables G.places (length acc) b v q) k)
       by_variable (Err f) q k = never k
-
-      go : (x : Bool) → letter b ≡ x → (y : Bool) → leb G.places (length acc) ≡ y
-          → elim x as (λ q. Scan) [
-            | false ↦ scan_variable (λ acc₁. scan G (behind K) acc₁ bs) (variable_at G.variables G.places (length acc) b) acc (b ∷ bs)
-            | true ↦ elim y as (λ q. Scan) [ true ↦ stuck TooManyPlaces (b ∷ bs) | false ↦ scan G (in_name (b ∷ []) K) acc bs ]
-          ] ≡ whole acc' rest
-          → HeadPeeled K acc (b ∷ bs) (whole acc' rest)
-      go false l y f k = by_variable (variable_at G.variables G.places (length acc) b) refl k
-      go true l true f k = never k
-      go true l false f k = peel_named K acc acc' rest b bs d l (leb-false G.places (length acc) f) k
 
   -- the byte behind a whole child
   data Turn (m : ℕ) (K : List ℕ) (acc : List Place) (text : List ℕ) (r : Scan) : Type 0 where
@@ -328,20 +298,14 @@ module _ (G : Grammar) where
     another : (j : ℕ) → m ≡ suc j → next_is 44 text ≡ true → scan G (at_start (j ∷ K)) acc (drop 1 text) ≡ r → Turn m K acc text r
 
   turn : (m : ℕ) (K : List ℕ) (acc acc' : List Place) (rest text : List ℕ) → scan G (behind (m ∷ K)) acc text ≡ whole acc' rest → Turn m K acc text (whole acc' rest)
-  turn m K acc acc' rest text e = go m refl (next_is 44 text) refl (next_is 41 text) refl
-    where
-      at : (j : ℕ) → m ≡ j → scan G (behind (j ∷ K)) acc text ≡ whole acc' rest
-      at j q = subst (λ x. scan G (behind (x ∷ K)) acc text ≡ whole acc' rest) q e
-
-      go : (j : ℕ) → m ≡ j → (x : Bool) → next_is 44 text ≡ x → (y : Bool) → next_is 41 text ≡ y → Turn m K acc text (whole acc' rest)
-      go zero q true c y f = never (sym (behind_surplus G K acc text c) ∙ at 0 q)
-      go (suc j) q true c y f = another j q c (sym (behind_comma G K acc text j c) ∙ at (suc j) q)
-      go zero q false c true f = closed q f (sym (behind_close G K acc text c f) ∙ at 0 q)
-      go (suc j) q false c true f = never (sym (behind_early G K acc text j c f) ∙ at (suc j) q)
-      go j q false c false f = never (sym (behind_unexpected G K acc text m c f) ∙ e)
+  turn m K acc acc' rest [] = never
+  turn zero K acc acc' rest (b ∷ bs) =
+      chosen (eqb b 44) (λ c k. never k) (λ c. chosen (eqb b 41) (λ f k. closed refl f k) (λ f k. never k))
+  turn (suc j) K acc acc' rest (b ∷ bs) =
+      chosen (eqb b 44) (λ c k. another j refl c k) (λ c. chosen (eqb b 41) (λ f k. never k) (λ f k. never k))
 
   comma_shorter : (xs : List ℕ) → next_is 44 xs ≡ true → length xs ≡ suc (length (drop 1 xs))
-  comma_shorter [] c = absurd (true≢false (sym c))
+  comma_shorter [] c = cc
   comma_shorter (b ∷ bs) c = refl
 
   -- every text of at most n bytes

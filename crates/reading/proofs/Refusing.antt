@@ -1,20 +1,19 @@
 -- The refusals of recipes and lines. Assumes nothing.
-use Rattle.std.proofs.Common.{◌≡◌, ℕ, ◌-◌, ◌<◌, Bool, true, false, eqb, ltb, leb, List, [], ◌∷◌, ◌++◌, length, replicate, Some, None, Err, Option, Result, refl, subst, arith}
+use Rattle.std.proofs.Common.{◌≡◌, ℕ, ◌<◌, Bool, true, eqb, ltb, leb, List, [], ◌∷◌, ◌++◌, length, replicate, Some, None, Err, Option, refl, subst, arith}
 use Rattle.std.proofs.lemmas.Bool.{leb-true, leb-false}
 use Rattle.card.specs.Bytes.{letter, filled}
 use Rattle.card.specs.Records.{find_from}
 use Rattle.card.specs.declared.record.Place.{Place}
 use Rattle.card.specs.declared.record.SymbolRecord.{SymbolRecord}
-use Rattle.card.specs.declared.record.RuleRecord.{RuleRecord}
-use Rattle.card.specs.declared.refusal.Refusal.{Refusal}
 use Rattle.card.specs.declared.refusal.Refusal.TheVariants.{TextTooLong}
 use Rattle.reading.specs.declared.fault.Fault.{Fault}
-use Rattle.reading.specs.declared.fault.Fault.TheVariants.{NameTooLong, WrongByte, TooManyLines, DigitTooLarge, LoneVariable}
+use Rattle.reading.specs.declared.fault.Fault.TheVariants.{WrongByte}
 use Rattle.reading.specs.Faults.{refusal_of}
 use Rattle.reading.specs.Scanning.{at_start, Scan, whole, stuck, scan}
 use Rattle.reading.specs.Lines.{Line, taken, broken, line_end, digit, symbol_digit, symbol_new, symbol_slash, symbol_name, symbol_line, variables_of, side_grammar, lone_variable, rule_right, rule_equals, rule_left, rule_line}
 use Rattle.reading.specs.Recipes.{recipe_grammar, recipe_read}
 use Rattle.reading.specs.Refusing.{numbered, RecipeRefusals, SymbolLineRefusals, RuleLineRefusals}
+use Rattle.reading.proofs.Tests.{by_test, chosen}
 use Rattle.reading.proofs.Stopping.{Only, Covers, scan_only}
 
 -- RECIPES
@@ -35,24 +34,21 @@ recipe_covers ss =
       early_end = refl;
       too_deep = λ depth places d p e. refl;
       too_many_places = λ places h e. absurd (omega (arith, leb-true 4096 places e));
-      unbound_variable = λ may e. let z : ◌≡◌ {A = ℕ} 0 1 = cc in absurd (omega arith);
+      unbound_variable = λ may e. cc;
     }
 
 pub recipe_refusals : RecipeRefusals
-recipe_refusals ss text f e = go (ltb 4096 (length text)) refl e
+recipe_refusals ss text f =
+    chosen (ltb 4096 (length text)) (λ l h. let same : TextTooLong ≡ f = cc in rw (← same) refl)
+    (λ l h.
+    let short : length text < 4097 = leb-false 4097 (length text) l in
+    let r = scan (recipe_grammar ss) (at_start []) [] text in
+    read r (scan_only (recipe_grammar ss) 4096 InRecipe (recipe_covers ss) text (at_start []) [] (omega arith, omega arith)) h)
   where
     read : (r : Scan) → Only InRecipe r → recipe_read r ≡ Err f → numbered (4 ∷ 5 ∷ 6 ∷ 7 ∷ 8 ∷ []) f ≡ true
-    read (stuck g rest) o h = let same : refusal_of g ≡ f = cc in subst (λ x. numbered (4 ∷ 5 ∷ 6 ∷ 7 ∷ 8 ∷ []) x ≡ true) same o
-    read (whole ps []) o h = let z : ◌≡◌ {A = ℕ} 0 1 = cc in absurd (omega arith)
-    read (whole ps (b ∷ bs)) o h = let same : refusal_of WrongByte ≡ f = cc in subst (λ x. numbered (4 ∷ 5 ∷ 6 ∷ 7 ∷ 8 ∷ []) x ≡ true) same refl
-
-    go : (b : Bool) → ltb 4096 (length text) ≡ b
-        → elim b as (λ x. Result (List Place) Refusal) [ true ↦ Err TextTooLong | false ↦ recipe_read (scan (recipe_grammar ss) (at_start []) [] text) ] ≡ Err f
-        → numbered (4 ∷ 5 ∷ 6 ∷ 7 ∷ 8 ∷ []) f ≡ true
-    go true l h = let same : TextTooLong ≡ f = cc in subst (λ x. numbered (4 ∷ 5 ∷ 6 ∷ 7 ∷ 8 ∷ []) x ≡ true) same refl
-    go false l h =
-        let short : length text < 4097 = leb-false 4097 (length text) l in
-        read (scan (recipe_grammar ss) (at_start []) [] text) (scan_only (recipe_grammar ss) 4096 InRecipe (recipe_covers ss) text (at_start []) [] (omega arith, omega arith)) h
+    read (stuck g rest) o h = let same : refusal_of g ≡ f = cc in rw (← same) o
+    read (whole ps []) o h = cc
+    read (whole ps (b ∷ bs)) o h = let same : refusal_of WrongByte ≡ f = cc in rw (← same) refl
 
 -- LINES
 
@@ -69,13 +65,10 @@ InSymbolLine f = numbered (5 ∷ 11 ∷ 12 ∷ []) (refusal_of f) ≡ true
 
 digit_only : (name text : List ℕ) → OnlyLine InSymbolLine (symbol_digit name text)
 digit_only name [] = refl
-digit_only name (b ∷ bs) = go (digit b) (leb b 52)
-  where
-    go : (x y : Bool)
-        → OnlyLine InSymbolLine (elim x as (λ q. Line SymbolRecord) [ false ↦ broken WrongByte (b ∷ bs) | true ↦ elim y as (λ q. Line SymbolRecord) [ false ↦ broken DigitTooLarge (b ∷ bs) | true ↦ line_end (record { name = name; arity = b - 48 }) bs ] ])
-    go false y = refl
-    go true false = refl
-    go true true = line_end_only InSymbolLine (record { name = name; arity = b - 48 }) bs refl
+digit_only name (b ∷ bs) =
+    by_test (OnlyLine InSymbolLine) (digit b)
+    (λ p. by_test (OnlyLine InSymbolLine) (leb b 52) (λ q. line_end_only InSymbolLine _ bs refl) (λ q. refl))
+    (λ p. refl)
 
 new_only : (o : Option ℕ) (name : List ℕ) (b : ℕ) (bs : List ℕ) → OnlyLine InSymbolLine (symbol_new o name b bs)
 new_only (Some k) name b bs = refl
@@ -84,28 +77,18 @@ new_only None name b bs = digit_only name bs
 slash_only : (ss : List SymbolRecord) (w text : List ℕ) → OnlyLine InSymbolLine (symbol_slash ss w text)
 slash_only ss w [] = refl
 slash_only ss [] (b ∷ bs) = refl
-slash_only ss (x ∷ w) (b ∷ bs) = go (eqb b 47)
-  where
-    go : (t : Bool) → OnlyLine InSymbolLine (elim t as (λ q. Line SymbolRecord) [ false ↦ broken WrongByte (b ∷ bs) | true ↦ symbol_new (find_from (filled (x ∷ w)) 0 ss) (filled (x ∷ w)) b bs ])
-    go false = refl
-    go true = new_only (find_from (filled (x ∷ w)) 0 ss) (filled (x ∷ w)) b bs
+slash_only ss (x ∷ w) (b ∷ bs) =
+    by_test (OnlyLine InSymbolLine) (eqb b 47) (λ p. new_only (find_from (filled (x ∷ w)) 0 ss) (filled (x ∷ w)) b bs) (λ p. refl)
 
 name_only : (ss : List SymbolRecord) (w text : List ℕ) → OnlyLine InSymbolLine (symbol_name ss w text)
 name_only ss w [] = refl
-name_only ss w (b ∷ bs) = go (name_only ss (w ++ (b ∷ [])) bs) (letter b) (leb 12 (length w))
-  where
-    go : OnlyLine InSymbolLine (symbol_name ss (w ++ (b ∷ [])) bs) → (x y : Bool)
-        → OnlyLine InSymbolLine (elim x as (λ q. Line SymbolRecord) [ false ↦ symbol_slash ss w (b ∷ bs) | true ↦ elim y as (λ q. Line SymbolRecord) [ true ↦ broken NameTooLong (b ∷ bs) | false ↦ symbol_name ss (w ++ (b ∷ [])) bs ] ])
-    go later false y = slash_only ss w (b ∷ bs)
-    go later true true = refl
-    go later true false = later
+name_only ss w (b ∷ bs) =
+    by_test (OnlyLine InSymbolLine) (letter b)
+    (λ p. by_test (OnlyLine InSymbolLine) (leb 12 (length w)) (λ q. refl) (λ q. name_only ss (w ++ (b ∷ [])) bs))
+    (λ p. slash_only ss w (b ∷ bs))
 
 symbol_only : (ss : List SymbolRecord) (text : List ℕ) → OnlyLine InSymbolLine (symbol_line ss text)
-symbol_only ss text = go (leb 64 (length ss))
-  where
-    go : (x : Bool) → OnlyLine InSymbolLine (elim x as (λ q. Line SymbolRecord) [ true ↦ broken TooManyLines text | false ↦ symbol_name ss [] text ])
-    go true = refl
-    go false = name_only ss [] text
+symbol_only ss text = by_test (OnlyLine InSymbolLine) (leb 64 (length ss)) (λ p. refl) (λ p. name_only ss [] text)
 
 pub symbol_line_refusals : SymbolLineRefusals
 symbol_line_refusals ss text f rest e = subst (OnlyLine InSymbolLine) e (symbol_only ss text)
@@ -138,24 +121,17 @@ right_only l (whole ps rest) o = line_end_only InRuleLine _ rest refl
 
 equals_only : (ss : List SymbolRecord) (l : List Place) (text : List ℕ) → OnlyLine InRuleLine (rule_equals ss l text)
 equals_only ss l [] = refl
-equals_only ss l (b ∷ bs) = go (eqb b 61) (lone_variable l)
-  where
-    go : (x y : Bool)
-        → OnlyLine InRuleLine (elim x as (λ q. Line RuleRecord) [ false ↦ broken WrongByte (b ∷ bs) | true ↦ elim y as (λ q. Line RuleRecord) [ true ↦ broken LoneVariable (b ∷ bs) | false ↦ rule_right l (scan (side_grammar ss (variables_of l)) (at_start []) [] bs) ] ])
-    go false y = refl
-    go true true = refl
-    go true false = right_only l (scan (side_grammar ss (variables_of l)) (at_start []) [] bs) (side_only ss (variables_of l) bs)
+equals_only ss l (b ∷ bs) =
+    by_test (OnlyLine InRuleLine) (eqb b 61)
+    (λ p. by_test (OnlyLine InRuleLine) (lone_variable l) (λ q. refl) (λ q. right_only l _ (side_only ss (variables_of l) bs)))
+    (λ p. refl)
 
 left_only : (ss : List SymbolRecord) (r : Scan) → Only InRuleLine r → OnlyLine InRuleLine (rule_left ss r)
 left_only ss (stuck f rest) o = o
 left_only ss (whole l rest) o = equals_only ss l rest
 
 rule_only : (ss : List SymbolRecord) (n : ℕ) (text : List ℕ) → OnlyLine InRuleLine (rule_line ss n text)
-rule_only ss n text = go (leb 64 n)
-  where
-    go : (x : Bool) → OnlyLine InRuleLine (elim x as (λ q. Line RuleRecord) [ true ↦ broken TooManyLines text | false ↦ rule_left ss (scan (side_grammar ss (replicate 8 true)) (at_start []) [] text) ])
-    go true = refl
-    go false = left_only ss (scan (side_grammar ss (replicate 8 true)) (at_start []) [] text) (side_only ss (replicate 8 true) text)
+rule_only ss n text = by_test (OnlyLine InRuleLine) (leb 64 n) (λ p. refl) (λ p. left_only ss _ (side_only ss (replicate 8 true) text))
 
 pub rule_line_refusals : RuleLineRefusals
 rule_line_refusals ss n text f rest e = subst (OnlyLine InRuleLine) e (rule_only ss n text)

@@ -1,7 +1,7 @@
 -- The written form of a rule is taken as that rule. Assumes nothing.
-use Rattle.std.proofs.Common.{◌≡◌, ℕ, zero, suc, ◌-◌, ◌<◌, ◌≤◌, Bool, true, false, ◌||◌, eqb, leb, ◌↔◌, List, [], ◌∷◌, ◌++◌, map, length, get_or, set, replicate, sym, refl, ap, ◌∙◌, subst, ap₂, arith, length-append, length-set}
-use Rattle.std.proofs.lemmas.List.{length-map, get_or-set_same, get_or-replicate}
-use Rattle.std.proofs.lemmas.Bool.{lt-leb, eqb-true, true≢false}
+use Rattle.std.proofs.Common.{◌≡◌, ℕ, ◌-◌, ◌<◌, ◌≤◌, Bool, true, false, leb, ◌↔◌, List, [], ◌∷◌, ◌++◌, map, length, get_or, replicate, sym, refl, ap, ◌∙◌, ap₂, arith, length-append}
+use Rattle.std.proofs.lemmas.List.{length-map, get_or-replicate}
+use Rattle.std.proofs.lemmas.Bool.{lt-leb}
 use Rattle.rewriting.specs.Terms.{Term, var, app, Terms, nilᵗ, consᵗ, occurs}
 use Rattle.rewriting.specs.Cards.{NoLoneVariable}
 use Rattle.rewriting.specs.Places as theory
@@ -11,13 +11,13 @@ use Rattle.card.specs.declared.record.Place.TheVariants.{Empty}
 use Rattle.card.specs.declared.record.SymbolRecord.{SymbolRecord}
 use Rattle.card.specs.declared.record.RuleRecord.{RuleRecord}
 use Rattle.reading.specs.Scanning.{at_start, whole, scan}
-use Rattle.reading.specs.Lines.{taken, marked, variables_of, side_grammar, lone_variable, side, rule_right, rule_equals, rule_left, rule_line}
+use Rattle.reading.specs.Lines.{taken, variables_of, side_grammar, lone_variable, side, rule_right, rule_equals, rule_left, rule_line}
 use Rattle.reading.specs.Written.{written, nesting, nesting_children, nesting_rest, Allowed, ProperSymbols}
 use Rattle.reading.specs.CardLines.{RuleWritten}
 use Rattle.reading.proofs.Automaton.{behind_top}
 use Rattle.reading.proofs.Spelling.{Ends, term_read}
 use Rattle.reading.proofs.Acceptance.{written_accepted}
-use Rattle.reading.proofs.RuleForms.{stands, stands_occurs, rule_taken}
+use Rattle.reading.proofs.RuleForms.{marked_occurs, rule_taken}
 
 -- A TERM HAS MORE PLACES THAN OPEN BRACKETS
 
@@ -42,40 +42,11 @@ mutual
       let n = length-append (theory.places t) (theory.places_of ts) in
       omega arith
 
--- THE VARIABLES OF A TERM ARE MARKED
-
-set_keeps : (may : List Bool) (v w : ℕ) → get_or may v false ≡ true → get_or (set may w true) v false ≡ true
-set_keeps [] v w h = h
-set_keeps (b ∷ may) zero zero h = refl
-set_keeps (b ∷ may) zero (suc w) h = h
-set_keeps (b ∷ may) (suc v) zero h = h
-set_keeps (b ∷ may) (suc v) (suc w) h = set_keeps may v w h
-
-marked_keeps : (may : List Bool) (ps : List theory.Place) (v : ℕ) → get_or may v false ≡ true → get_or (marked may (map stored ps)) v false ≡ true
-marked_keeps may [] v h = h
-marked_keeps may (theory.Symbol f ∷ ps) v h = marked_keeps may ps v h
-marked_keeps may (theory.Variable w ∷ ps) v h = marked_keeps (set may w true) ps v (set_keeps may v w h)
-
-stands_marked : (may : List Bool) (ps : List theory.Place) (v : ℕ) → v < length may → stands v ps ≡ true → get_or (marked may (map stored ps)) v false ≡ true
-stands_marked may [] v l h = absurd (true≢false (sym h))
-stands_marked may (theory.Symbol f ∷ ps) v l h = stands_marked may ps v l h
-stands_marked may (theory.Variable w ∷ ps) v l h = go (λ k. stands_marked (set may w true) ps v (omega (arith, length-set may w true)) k) (eqb w v) refl h
-  where
-    go : (stands v ps ≡ true → get_or (marked (set may w true) (map stored ps)) v false ≡ true) → (b : Bool) → eqb w v ≡ b → (b || stands v ps) ≡ true
-        → get_or (marked (set may w true) (map stored ps)) v false ≡ true
-    go later true e k =
-        let same : w ≡ v = eqb-true w v e in
-        marked_keeps (set may w true) ps v (subst (λ i. get_or (set may i true) v false ≡ true) (sym same) (get_or-set_same may v true false l))
-    go later false e k = later k
-
-occurs_marked : (t : Term) (v : ℕ) → v < 8 → occurs v t ≡ true → get_or (variables_of (map stored (theory.places t))) v false ≡ true
-occurs_marked t v l o = stands_marked (replicate 8 false) (theory.places t) v l (stands_occurs v t ∙ o)
+-- THE TWO SIDES
 
 no_lone : (t : Term) → NoLoneVariable t → lone_variable (map stored (theory.places t)) ≡ false
 no_lone (var v) h = absurd h
 no_lone (app f ts) h = refl
-
--- THE TWO SIDES
 
 ends_equals : (rest : List ℕ) → Ends (61 ∷ rest)
 ends_equals rest = record { no_letter = refl; no_bracket = refl }
@@ -100,7 +71,7 @@ module _ (ss : List SymbolRecord) (proper : ProperSymbols ss) where
       let back = written ss w.right in
       let rule = w.is_rule in
       let a = side_allowed (replicate 8 true) r.left w.left rule.left_is (λ v o. get_or-replicate 8 v true false (rule.left_is.eight_variables v o)) in
-      let b = side_allowed (variables_of l) r.right w.right rule.right_is (λ v o. occurs_marked w.left v (rule.right_is.eight_variables v o) (rule.right_within_left v o)) in
+      let b = side_allowed (variables_of l) r.right w.right rule.right_is (λ v o. marked_occurs w.left v (rule.right_is.eight_variables v o) ∙ rule.right_within_left v o) in
       let left_read : scan G (at_start []) [] text ≡ whole l (61 ∷ back) =
       ap (scan G (at_start []) []) w.spelled
       ∙ (term_read G proper w.left a.on a.variables [] [] (61 ∷ back) (omega (arith, a.few_places)) (omega (arith, a.few_brackets)) (ends_equals back) ∙ behind_top G l (61 ∷ back)) in

@@ -12,7 +12,7 @@ use Rattle.card.specs.Records.{arities, blank_symbol, stored, find_from, WellFor
 use Rattle.card.specs.declared.record.Place.{Place}
 use Rattle.card.specs.declared.record.Place.TheVariants.{Symbol}
 use Rattle.card.specs.declared.record.SymbolRecord.{SymbolRecord}
-use Rattle.card.proofs.Finding.{found_from_distinct}
+use Rattle.card.proofs.Finding.{found_from_distinct, name_is_found_exactly}
 use Rattle.card.proofs.Naming.{lettered}
 use Rattle.reading.specs.Scanning.{Grammar, at_start, behind, scan, arity_at, variable_at, scan_variable, variable_letter}
 use Rattle.reading.specs.Sources.{at_letter, next_is}
@@ -22,7 +22,7 @@ use Rattle.reading.proofs.Automaton.{start_takes, start_variable, judged, name_o
 -- A CARD'S SYMBOLS
 
 pub arity_found : (ss : List SymbolRecord) (f n : ℕ) → arities ss f ≡ Some n → (f < length ss) × (arity_at ss f ≡ n)
-arity_found [] f n e = let z : ◌≡◌ {A = ℕ} 0 1 = cc in absurd (omega arith)
+arity_found [] f n e = cc
 arity_found (s ∷ ss) zero n e = (omega arith, cc)
 arity_found (s ∷ ss) (suc f) n e = let r = arity_found ss f n e in (omega (arith, r.0), r.1)
 
@@ -30,6 +30,13 @@ pub found_arity : (ss : List SymbolRecord) (f : ℕ) → f < length ss → ariti
 found_arity [] f h = absurd (omega arith)
 found_arity (s ∷ ss) zero h = refl
 found_arity (s ∷ ss) (suc f) h = found_arity ss f (omega arith)
+
+-- a symbol that is found has the name, and if none is found none has it
+pub found_at : (ss : List SymbolRecord) (bytes : List ℕ) (k : ℕ) → find_from bytes 0 ss ≡ Some k → (k < length ss) × ((get_or ss k blank_symbol).name ≡ bytes)
+found_at ss bytes k e = rw e at (name_is_found_exactly bytes ss)
+
+pub found_none : (ss : List SymbolRecord) (bytes : List ℕ) → find_from bytes 0 ss ≡ None → (i : ℕ) → i < length ss → (get_or ss i blank_symbol).name ≡ bytes → ⊥
+found_none ss bytes e = rw e at (name_is_found_exactly bytes ss)
 
 -- the name of a symbol of the card: letters, which its record holds and by which it is found
 pub record NameAt (ss : List SymbolRecord) (f : ℕ) : Type 0 where

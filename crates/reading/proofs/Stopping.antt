@@ -8,6 +8,7 @@ use Rattle.card.specs.declared.record.Place.TheVariants.{Symbol, Variable}
 use Rattle.reading.specs.declared.fault.Fault.{Fault}
 use Rattle.reading.specs.declared.fault.Fault.TheVariants.{NameTooLong, UnknownName, ConstantOpened, BracketMissing, TooManyChildren, TooFewChildren, TooDeep, TooManyPlaces, UnboundVariable, WrongByte, EarlyEnd}
 use Rattle.reading.specs.Scanning.{Grammar, Mode, at_start, in_name, behind, Scan, whole, stuck, scan, arity_at, variable_letter, variable_at, scan_variable, scan_behind, end_behind, scan_named, end_named, scan_judged, end_judged}
+use Rattle.reading.proofs.Tests.{by_test}
 
 -- every fault at which reading stops has the property
 abbrev pub Only : (Fault → Type 0) → Scan → Type 0
@@ -42,14 +43,11 @@ module _ (G : Grammar) (bound : ℕ) (P : Fault → Type 0) (covers : Covers G b
 
   variable_only : (o : Option (List Bool)) → G.variables ≡ o → (n b : ℕ) → n < bound → OnlyErr (variable_at o G.places n b)
   variable_only None e n b h = covers.wrong_byte
-  variable_only (Some may) e n b h = go (variable_letter b) (leb G.places n) refl (get_or may (b - 65) false)
-    where
-      go : (x y : Bool) → leb G.places n ≡ y → (z : Bool)
-          → OnlyErr (elim x as (λ q. Result ℕ Fault) [ false ↦ Err WrongByte | true ↦ elim y as (λ q. Result ℕ Fault) [ true ↦ Err TooManyPlaces | false ↦ elim z as (λ q. Result ℕ Fault) [ false ↦ Err UnboundVariable | true ↦ Ok (b - 65) ] ] ])
-      go false y f z = covers.wrong_byte
-      go true true f z = covers.too_many_places n h f
-      go true false f false = covers.unbound_variable may e
-      go true false f true = tt
+  variable_only (Some may) e n b h =
+      by_test OnlyErr (variable_letter b)
+      (λ p. by_test OnlyErr (leb G.places n) (λ q. covers.too_many_places n h q)
+      (λ q. by_test OnlyErr (get_or may (b - 65) false) (λ r. tt) (λ r. covers.unbound_variable may e)))
+      (λ p. covers.wrong_byte)
 
   scan_variable_only : (go : List Place → Scan) (acc : List Place) (text : List ℕ) → ((v : ℕ) → Only P (go (acc ++ (Variable v ∷ [])))) → (r : Result ℕ Fault) → OnlyErr r → Only P (scan_variable go r acc text)
   scan_variable_only go acc text later (Ok v) h = later v
@@ -58,30 +56,26 @@ module _ (G : Grammar) (bound : ℕ) (P : Fault → Type 0) (covers : Covers G b
   behind_only : (go : Mode → Scan) (K : List ℕ) (acc : List Place) (n b : ℕ) (bs : List ℕ) → length K ≤ n → n + suc (length bs) ≤ bound
       → ((m : Mode) → Room m n (length bs) → Only P (go m)) → Only P (scan_behind go K acc b bs)
   behind_only go [] acc n b bs k h later = tt
-  behind_only go (d ∷ K) acc n b bs k h later = pick (eqb b 44) (eqb b 41) d (λ j. later (at_start (j ∷ K)) (k, omega arith)) (later (behind K) (omega arith, omega arith))
+  behind_only go (d ∷ K) acc n b bs k h later =
+      by_test (Only P) (eqb b 44) (λ p. comma d) (λ p. by_test (Only P) (eqb b 41) (λ q. close d) (λ q. covers.wrong_byte))
     where
-      pick : (x y : Bool) (d : ℕ) → ((j : ℕ) → Only P (go (at_start (j ∷ K)))) → Only P (go (behind K))
-          → Only P (elim x as (λ q. Scan) [ true ↦ elim d as (λ q. Scan) [ zero ↦ stuck TooManyChildren (b ∷ bs) | suc j ↦ go (at_start (j ∷ K)) ] | false ↦ elim y as (λ q. Scan) [ true ↦ elim d as (λ q. Scan) [ zero ↦ go (behind K) | suc j ↦ stuck TooFewChildren (b ∷ bs) ] | false ↦ stuck WrongByte (b ∷ bs) ] ])
-      pick true y zero next back = covers.too_many_children
-      pick true y (suc j) next back = next j
-      pick false true zero next back = back
-      pick false true (suc j) next back = covers.too_few_children
-      pick false false d next back = covers.wrong_byte
+      comma : (d : ℕ) → Only P (elim d as (λ q. Scan) [ zero ↦ stuck TooManyChildren (b ∷ bs) | suc j ↦ go (at_start (j ∷ K)) ])
+      comma zero = covers.too_many_children
+      comma (suc j) = later (at_start (j ∷ K)) (k, omega arith)
+
+      close : (d : ℕ) → Only P (elim d as (λ q. Scan) [ zero ↦ go (behind K) | suc j ↦ stuck TooFewChildren (b ∷ bs) ])
+      close zero = later (behind K) (omega arith, omega arith)
+      close (suc j) = covers.too_few_children
 
   named_only : (go : Mode → List Place → Scan) (K : List ℕ) (acc : List Place) (f : ℕ) (arity b : ℕ) (bs : List ℕ) → length K ≤ length acc → length acc < G.places → length acc + suc (suc (length bs)) ≤ bound
       → ((m : Mode) → Room m (suc (length acc)) (length bs) → Only P (go m (acc ++ (Symbol f ∷ [])))) → Only P (scan_named go G.brackets K acc f arity b bs)
-  named_only go K acc f zero b bs k room h later = pick (eqb b 40)
-    where
-      pick : (x : Bool) → Only P (elim x as (λ q. Scan) [ true ↦ stuck ConstantOpened (b ∷ bs) | false ↦ scan_behind (λ m. go m (acc ++ (Symbol f ∷ []))) K (acc ++ (Symbol f ∷ [])) b bs ])
-      pick true = covers.constant_opened
-      pick false = behind_only (λ m. go m (acc ++ (Symbol f ∷ []))) K (acc ++ (Symbol f ∷ [])) (suc (length acc)) b bs (omega arith) (omega arith) later
-  named_only go K acc f (suc n) b bs k room h later = pick (eqb b 40) (leb G.brackets (length K)) refl
-    where
-      pick : (x y : Bool) → leb G.brackets (length K) ≡ y
-          → Only P (elim x as (λ q. Scan) [ false ↦ stuck BracketMissing (b ∷ bs) | true ↦ elim y as (λ q. Scan) [ true ↦ stuck TooDeep (b ∷ bs) | false ↦ go (at_start (n ∷ K)) (acc ++ (Symbol f ∷ [])) ] ])
-      pick false y e = covers.bracket_missing
-      pick true true e = covers.too_deep (length K) (length acc) k room e
-      pick true false e = later (at_start (n ∷ K)) (omega arith, omega arith)
+  named_only go K acc f zero b bs k room h later =
+      by_test (Only P) (eqb b 40) (λ p. covers.constant_opened)
+      (λ p. behind_only (λ m. go m (acc ++ (Symbol f ∷ []))) K (acc ++ (Symbol f ∷ [])) (suc (length acc)) b bs (omega arith) (omega arith) later)
+  named_only go K acc f (suc n) b bs k room h later =
+      by_test (Only P) (eqb b 40)
+      (λ p. by_test (Only P) (leb G.brackets (length K)) (λ e. covers.too_deep (length K) (length acc) k room e) (λ e. later (at_start (n ∷ K)) (omega arith, omega arith)))
+      (λ p. covers.bracket_missing)
 
   judged_only : (go : Mode → List Place → Scan) (K : List ℕ) (acc : List Place) (o : Option ℕ) (b : ℕ) (bs : List ℕ) → length K ≤ length acc → length acc < G.places → length acc + suc (suc (length bs)) ≤ bound
       → ((m : Mode) (f : ℕ) → Room m (suc (length acc)) (length bs) → Only P (go m (acc ++ (Symbol f ∷ [])))) → Only P (scan_judged go G K acc o b bs)
@@ -106,21 +100,17 @@ module _ (G : Grammar) (bound : ℕ) (P : Fault → Type 0) (covers : Covers G b
   pub scan_only : (text : List ℕ) (m : Mode) (acc : List Place) → Room m (length acc) (length text) → Only P (scan G m acc text)
   scan_only [] (at_start K) acc r = covers.early_end
   scan_only (b ∷ bs) (at_start K) acc r =
-      pick (λ v. scan_only bs (behind K) (acc ++ (Variable v ∷ [])) (omega (arith, one_more acc (Variable v)), omega (arith, one_more acc (Variable v)))) (λ e. scan_only bs (in_name (b ∷ []) K) acc (r.0, omega arith, leb-false G.places (length acc) e)) (letter b) (leb G.places (length acc)) refl
-    where
-      pick : ((v : ℕ) → Only P (scan G (behind K) (acc ++ (Variable v ∷ [])) bs)) → (leb G.places (length acc) ≡ false → Only P (scan G (in_name (b ∷ []) K) acc bs)) → (x y : Bool) → leb G.places (length acc) ≡ y
-          → Only P (elim x as (λ q. Scan) [ false ↦ scan_variable (λ acc'. scan G (behind K) acc' bs) (variable_at G.variables G.places (length acc) b) acc (b ∷ bs) | true ↦ elim y as (λ q. Scan) [ true ↦ stuck TooManyPlaces (b ∷ bs) | false ↦ scan G (in_name (b ∷ []) K) acc bs ] ])
-      pick variable name false y e = scan_variable_only (λ acc'. scan G (behind K) acc' bs) acc (b ∷ bs) variable (variable_at G.variables G.places (length acc) b) (variable_only G.variables refl (length acc) b (omega (arith, r.1)))
-      pick variable name true true e = covers.too_many_places (length acc) (omega (arith, r.1)) e
-      pick variable name true false e = name e
+      by_test (Only P) (letter b)
+      (λ l. by_test (Only P) (leb G.places (length acc)) (λ e. covers.too_many_places (length acc) (omega (arith, r.1)) e)
+      (λ e. scan_only bs (in_name (b ∷ []) K) acc (r.0, omega arith, leb-false G.places (length acc) e)))
+      (λ l. scan_variable_only (λ acc'. scan G (behind K) acc' bs) acc (b ∷ bs)
+      (λ v. scan_only bs (behind K) (acc ++ (Variable v ∷ [])) (omega (arith, one_more acc (Variable v)), omega (arith, one_more acc (Variable v))))
+      (variable_at G.variables G.places (length acc) b) (variable_only G.variables refl (length acc) b (omega (arith, r.1))))
   scan_only [] (in_name w K) acc r = end_judged_only K acc (find_from (filled w) 0 G.symbols)
   scan_only (b ∷ bs) (in_name w K) acc r =
-      pick (scan_only bs (in_name (w ++ (b ∷ [])) K) acc (r.0, omega arith, r.2)) (λ m f q. scan_only bs m (acc ++ (Symbol f ∷ [])) (subst (λ n. Room m n (length bs)) (sym (one_more acc (Symbol f))) q)) (letter b) (leb 12 (length w))
-    where
-      pick : Only P (scan G (in_name (w ++ (b ∷ [])) K) acc bs) → ((m : Mode) (f : ℕ) → Room m (suc (length acc)) (length bs) → Only P (scan G m (acc ++ (Symbol f ∷ [])) bs)) → (x y : Bool)
-          → Only P (elim x as (λ q. Scan) [ true ↦ elim y as (λ q. Scan) [ true ↦ stuck NameTooLong (b ∷ bs) | false ↦ scan G (in_name (w ++ (b ∷ [])) K) acc bs ] | false ↦ scan_judged (λ m acc'. scan G m acc' bs) G K acc (find_from (filled w) 0 G.symbols) b bs ])
-      pick name other true true = covers.name_too_long
-      pick name other true false = name
-      pick name other false y = judged_only (λ m acc'. scan G m acc' bs) K acc (find_from (filled w) 0 G.symbols) b bs r.0 r.2 r.1 other
+      by_test (Only P) (letter b)
+      (λ l. by_test (Only P) (leb 12 (length w)) (λ e. covers.name_too_long) (λ e. scan_only bs (in_name (w ++ (b ∷ [])) K) acc (r.0, omega arith, r.2)))
+      (λ l. judged_only (λ m acc'. scan G m acc' bs) K acc (find_from (filled w) 0 G.symbols) b bs r.0 r.2 r.1
+      (λ m f q. scan_only bs m (acc ++ (Symbol f ∷ [])) (subst (λ n. Room m n (length bs)) (sym (one_more acc (Symbol f))) q)))
   scan_only [] (behind K) acc r = end_behind_only K acc
   scan_only (b ∷ bs) (behind K) acc r = behind_only (λ m. scan G m acc bs) K acc (length acc) b bs r.0 r.1 (λ m q. scan_only bs m acc q)

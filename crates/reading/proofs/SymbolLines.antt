@@ -1,7 +1,7 @@
 -- A symbol line, from its name to its digit. Assumes nothing.
 use Rattle.std.proofs.Common.{◌≡◌, ℕ, ◌+◌, ◌<◌, ◌≤◌, true, false, leb, ◌⊎◌, List, [], ◌∷◌, ◌++◌, length, get_or, drop, is_some, Some, None, Option, sym, refl, ap, ◌∙◌, inl, inr, append_assoc, append-nil, arith, length-append}
 use Rattle.std.specs.List.{AllByRecursion}
-use Rattle.std.proofs.lemmas.Bool.{lt-leb, le-leb, leb-true, eqb-true, and_parts, true≢false}
+use Rattle.std.proofs.lemmas.Bool.{lt-leb, le-leb, leb-true, eqb-true, and_parts}
 use Rattle.card.specs.Bytes.{letter, filled}
 use Rattle.card.specs.Records.{find_from}
 use Rattle.card.specs.declared.record.SymbolRecord.{SymbolRecord}
@@ -23,7 +23,7 @@ module _ (ss : List SymbolRecord) where
   name_over w (b ∷ bs) l = rw (l, symbol_name)
 
   name_too_long : (w rest : List ℕ) → 12 ≤ length w → at_letter rest ≡ true → symbol_name ss w rest ≡ broken NameTooLong rest
-  name_too_long w [] h l = absurd (true≢false (sym l))
+  name_too_long w [] h l = cc
   name_too_long w (b ∷ bs) h l = let f : leb 12 (length w) ≡ true = le-leb 12 (length w) h in rw (l, symbol_name) (rw f)
 
   slash_missing : (w rest : List ℕ) → next_is 47 rest ≡ false → symbol_slash ss w rest ≡ broken (unexpected rest) rest
@@ -37,7 +37,7 @@ module _ (ss : List SymbolRecord) where
 
   pub slash : (w rest : List ℕ) → (0 < length w) → next_is 47 rest ≡ true → symbol_slash ss w rest ≡ symbol_new (find_from (filled w) 0 ss) (filled w) 47 (drop 1 rest)
   slash [] rest h n = absurd (omega arith)
-  slash (x ∷ w) [] h n = absurd (true≢false (sym n))
+  slash (x ∷ w) [] h n = cc
   slash (x ∷ w) (b ∷ bs) h n = rw (n, symbol_slash) (ap (λ y. symbol_new (find_from (filled (x ∷ w)) 0 ss) (filled (x ∷ w)) y bs) (eqb-true b 47 n))
 
   -- the first byte of a filled name is 0 exactly if the name has no letter
@@ -80,14 +80,14 @@ module _ (ss : List SymbolRecord) where
             ∙ ap (λ h. symbol_new (find_from h 0 ss) h 47 (drop 1 after)) (sym t.taken.holds))
 
         slash_first : (xs : List ℕ) → next_is 47 xs ≡ true → xs ≡ 47 ∷ drop 1 xs
-        slash_first [] n = absurd (true≢false (sym n))
+        slash_first [] n = cc
         slash_first (b ∷ bs) n = ap (λ x. x ∷ bs) (eqb-true b 47 n)
 
         pub taken_name : is_some (find_from held 0 ss) ≡ true → broken fault.NameTaken after ≡ symbol_line ss before
         taken_name s = sym (at_slash ∙ (go (find_from held 0 ss) s ∙ ap (broken fault.NameTaken) (sym (slash_first after bar))))
           where
             go : (o : Option ℕ) → is_some o ≡ true → symbol_new o held 47 (drop 1 after) ≡ broken fault.NameTaken (47 ∷ drop 1 after)
-            go None e = absurd (true≢false (sym e))
+            go None e = cc
             go (Some k) e = refl
 
         pub new_name : is_some (find_from held 0 ss) ≡ false → symbol_line ss before ≡ symbol_digit held (drop 1 after)
@@ -95,4 +95,4 @@ module _ (ss : List SymbolRecord) where
           where
             go : (o : Option ℕ) → is_some o ≡ false → symbol_new o held 47 (drop 1 after) ≡ symbol_digit held (drop 1 after)
             go None e = refl
-            go (Some k) e = absurd (true≢false e)
+            go (Some k) e = cc

@@ -8,16 +8,6 @@ use Rattle.card.specs.declared.record.RuleRecord.{RuleRecord}
 use Rattle.reading.specs.Lines.{taken, symbol_line, rule_line}
 use Rattle.reading.specs.Written.{written, ProperSymbols}
 
--- the line of a symbol that the card lacks: its name, "/" and its arity as a digit
-pub record SymbolWritten (ss : List SymbolRecord) (text : List ℕ) (s : SymbolRecord) : Type 0 where
-  pub name : List ℕ
-  pub arity : ℕ
-  pub is_name : Name name
-  pub few_children : arity ≤ 4
-  pub new : (i : ℕ) → i < length ss → (slice_index_or ss i blank_symbol).name ≢ filled name
-  pub spelled : text ≡ name ++ (47 ∷ (48 + arity) ∷ [])
-  pub record_is : s ≡ record { name = filled name; arity = arity }
-
 -- the line of a symbol: its name, "/" and its arity as a digit
 pub record SymbolSpelled (text : List ℕ) (s : SymbolRecord) : Type 0 where
   pub name : List ℕ
@@ -30,6 +20,11 @@ pub record SymbolSpelled (text : List ℕ) (s : SymbolRecord) : Type 0 where
 -- no symbol has the name of this one
 abbrev pub Lacks : List SymbolRecord → SymbolRecord → Type 0
 Lacks ss s = (i : ℕ) → i < length ss → (slice_index_or ss i blank_symbol).name ≢ s.name
+
+-- the line of a symbol that the card lacks
+pub record SymbolWritten (ss : List SymbolRecord) (text : List ℕ) (s : SymbolRecord) : Type 0 where
+  pub line : SymbolSpelled text s
+  pub new : Lacks ss s
 
 -- the line of a rule over the card's symbols: its left side, "=" and its right side
 pub record RuleWritten (ss : List SymbolRecord) (text : List ℕ) (r : RuleRecord) : Type 0 where

@@ -34,6 +34,12 @@ abbrev pub Stopped : Grammar → (List ℕ → Mode) → ℕ → ℕ → List Pl
 Stopped G from depth filled out before after f =
     (K : List ℕ) → length K ≡ depth → scan G (from K) (take filled out) before ≡ stuck f after
 
--- the next child of the innermost open bracket, in which `left` more are due behind it
-abbrev pub next_child : ℕ → List ℕ → Mode
-next_child left K = at_start (left ∷ K)
+-- the byte behind a child of the innermost open bracket was read, in which `left` more are due behind it
+pub record ChildEnded (left : ℕ) (before after : List ℕ) : Type 0 where
+  pub shorter : length after < length before
+  pub goes :
+      (G : Grammar) (K : List ℕ) (acc : List Place)
+      → scan G (behind (left ∷ K)) acc before ≡ scan G (behind_head K left) acc after
+
+abbrev pub ChildStuck : ℕ → List ℕ → List ℕ → Fault → Type 0
+ChildStuck left before after f = (G : Grammar) (K : List ℕ) (acc : List Place) → scan G (behind (left ∷ K)) acc before ≡ stuck f after

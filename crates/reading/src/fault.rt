@@ -43,19 +43,15 @@ impl From<Fault> for Refusal {
 
     fn from(f: Fault) -> Refusal {
         match f {
-            Fault::NameTooLong => Refusal::Malformed,
+            Fault::NameTooLong | Fault::WrongByte | Fault::EarlyEnd => Refusal::Malformed,
             Fault::UnknownName => Refusal::UnknownName,
-            Fault::ConstantOpened => Refusal::WrongChildren,
-            Fault::BracketMissing => Refusal::WrongChildren,
-            Fault::TooManyChildren => Refusal::WrongChildren,
-            Fault::TooFewChildren => Refusal::WrongChildren,
+            Fault::ConstantOpened
+            | Fault::BracketMissing
+            | Fault::TooManyChildren
+            | Fault::TooFewChildren => Refusal::WrongChildren,
             Fault::TooDeep => Refusal::TooDeep,
-            Fault::TooManyPlaces => Refusal::OverLimit,
+            Fault::TooManyPlaces | Fault::TooManyLines | Fault::DigitTooLarge => Refusal::OverLimit,
             Fault::UnboundVariable => Refusal::UnboundVariable,
-            Fault::WrongByte => Refusal::Malformed,
-            Fault::EarlyEnd => Refusal::Malformed,
-            Fault::TooManyLines => Refusal::OverLimit,
-            Fault::DigitTooLarge => Refusal::OverLimit,
             Fault::NameTaken => Refusal::NameTaken,
             Fault::LoneVariable => Refusal::LoneVariable,
         }

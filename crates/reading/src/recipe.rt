@@ -3,7 +3,8 @@ ghost use Rattle.std.specs.Prelude.{◌≡◌, ℕ, ◌≤◌, List, take, drop,
 ghost use Rattle.reading.specs.Recipes.{recipe};
 
 use crate::limits::recipe_grammar;
-use crate::source::{Line, Source};
+use crate::name::at_end;
+use crate::source::Line;
 use crate::term::read_term;
 use card::record::{Place, SymbolRecord};
 use card::refusal::Refusal;
@@ -24,8 +25,6 @@ pub fn read_recipe(
     let grammar = recipe_grammar(symbols);
     let mut src = Line::new(text);
     let n = read_term(&mut src, &grammar, out, 0, 0)?;
-    if src.peek().is_some() {
-        return Err(Refusal::Malformed);
-    }
+    at_end(&src)?;
     Ok(n)
 }

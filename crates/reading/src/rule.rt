@@ -1,11 +1,11 @@
 // Reading a rule line: left side, "=", right side.
 ghost use Rattle.std.specs.Prelude.{◌≡◌, ℕ, List, [], take, MatchResult};
-ghost use Rattle.reading.specs.Lines.{line_of, rule_line, side_grammar, SideRead, variables_of};
+ghost use Rattle.reading.specs.Lines.{line_of, lone_variable, rule_line, side_grammar, SideRead, variables_of};
 ghost use Rattle.reading.specs.Scanning.{at_start, scan, stuck};
 
 use crate::fault::Fault;
 use crate::limits::side_grammar;
-use crate::name::{fault_here, next_is};
+use crate::name::{at_end, fault_here, next_is};
 use crate::source::Source;
 use crate::term::read_term;
 use card::record::{Place, RuleRecord, SymbolRecord};
@@ -16,13 +16,20 @@ fn side_variables(side: &[Place; 32]) -> [bool; 8]
 {
     let mut may = [false; 8];
     for place in side {
-        if let Place::Variable(v) = place {
-            if (*v as usize) < 8 {
-                may[*v as usize] = true;
-            }
+        match *place {
+            // by index: of what is written through `get_mut` a proof learns nothing
+            Place::Variable(v) if usize::from(v) < may.len() => may[usize::from(v)] = true,
+            _ => {}
         }
     }
     may
+}
+
+// Whether a side is a variable alone.
+fn lone_variable(side: &[Place; 32]) -> bool
+    ensures { result ≡ lone_variable side.now }
+{
+    matches!(side[0], Place::Variable(_))
 }
 
 // A side with the variables that may stand in it.
@@ -56,13 +63,11 @@ pub fn read_rule_line<S: Source>(
     if !next_is(src, b'=') {
         return Err(fault_here(src));
     }
-    if let Place::Variable(_) = left[0] {
+    if lone_variable(&left) {
         return Err(Fault::LoneVariable);
     }
     src.advance();
     let right = read_side(src, symbols, side_variables(&left))?;
-    if src.peek().is_some() {
-        return Err(Fault::WrongByte);
-    }
+    at_end(src)?;
     Ok(RuleRecord { left, right })
 }

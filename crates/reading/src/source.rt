@@ -15,35 +15,30 @@ pub trait Source {
         ensures { rest self.new ≡ drop 1 (rest self.old) };
 }
 
-// A line of text, from some place on.
+// What is left of a line of text.
 #[derive(Drop)]
 pub struct Line<'a> {
-    text: &'a [u8],
-    at: usize,
+    rest: &'a [u8],
 }
 
 impl<'a> Line<'a> {
     pub fn new(text: &'a [u8]) -> Line<'a>
-        ensures whole { result.text.now ≡ text.now }
-        ensures start { result.at ≡ 0 }
+        ensures { result.rest.now ≡ text.now }
     {
-        Line { text, at: 0 }
+        Line { rest: text }
     }
 }
 
 impl Source for Line<'_> {
-    ghost rest = { λ s. drop s.at s.text.now };
+    ghost rest = { λ s. s.rest.now };
 
     fn peek(&self) -> Option<u8> {
-        if self.at < self.text.len() {
-            return Some(self.text[self.at]);
-        }
-        None
+        self.rest.first().copied()
     }
 
     fn advance(&mut self) {
-        if self.at < self.text.len() {
-            self.at += 1;
+        if let Some((_, rest)) = self.rest.split_first() {
+            self.rest = rest;
         }
     }
 }

@@ -3,7 +3,7 @@ ghost use Rattle.std.specs.Prelude.{◌≡◌, List};
 ghost use Rattle.reading.specs.Lines.{line_of, symbol_digit, symbol_line};
 
 use crate::fault::Fault;
-use crate::name::{fault_here, next_is, read_name};
+use crate::name::{at_end, fault_here, next_is, read_name};
 use crate::source::Source;
 use card::name::find;
 use card::record::SymbolRecord;
@@ -12,23 +12,14 @@ use card::record::SymbolRecord;
 fn read_arity<S: Source>(src: &mut S, name: [u8; 12]) -> Result<SymbolRecord, Fault>
     ensures { line_of result (S.Source.rest src.new) ≡ symbol_digit name (S.Source.rest src.old) }
 {
-    let Some(b) = src.peek() else {
-        return Err(Fault::EarlyEnd);
+    let arity = match src.peek().ok_or(Fault::EarlyEnd)? {
+        b @ b'0'..=b'4' => b - b'0',
+        b'5'..=b'9' => return Err(Fault::DigitTooLarge),
+        _ => return Err(Fault::WrongByte),
     };
-    if b < b'0' || b > b'9' {
-        return Err(Fault::WrongByte);
-    }
-    if b > b'4' {
-        return Err(Fault::DigitTooLarge);
-    }
     src.advance();
-    if src.peek().is_some() {
-        return Err(Fault::WrongByte);
-    }
-    Ok(SymbolRecord {
-        name,
-        arity: b - b'0',
-    })
+    at_end(src)?;
+    Ok(SymbolRecord { name, arity })
 }
 
 // The symbol of a line, behind the symbols that the card has.

@@ -1,5 +1,6 @@
-use Rattle.cardtext.proofs.Cleaning.{Copying}
+use Rattle.std.proofs.Common.{◌≡◌, ◌++◌, take}
+use Rattle.cardtext.specs.Cleaning.{cleaned, cleaned_behind}
 use Rattle.cardtext.proofs.clean.copy_kept.Given as goal
 
-abbrev pub invariant-loop-b : goal.invariant-loop-b
-invariant-loop-b l = Copying l.text l.buffer l.b-index l.at l.noted
+abbrev pub invariant-loop-n : goal.invariant-loop-n
+invariant-loop-n l = take l.n l.buffer ++ cleaned_behind l.kept.noted l.kept.text.now ≡ cleaned l.text

@@ -1,7 +1,0 @@
-use Rattle.std.proofs.lemmas.List.Elements.{contains_decides}
-use Rattle.cardtext.proofs.line.is_rule.Goals as goal
-use Rattle.std.proofs.Common.{eqb}
-use Rattle.std.proofs.lemmas.Bool.Decides.{Decides-eqb}
-
-pub returns : goal.returns
-returns c = contains_decides eqb Decides-eqb c.args.line.now 61 c.contains.result c.contains.ensures.cases
