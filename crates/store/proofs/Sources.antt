@@ -63,7 +63,7 @@ pub node_over_told : (t : Tins) (symbol : ℕ) (sources slice : List ℕ) (r : O
     → MatchOption r (4 < length sources) (λ n. OverRecords t.table n × (node_tree t.table n ≡ tree_over (trees t.table) symbol (source_records t.roots sources)))
 node_over_told t symbol sources slice None e tins filled h = omega (arith, ap length e, length-map sources (λ tin. unwrap_or (get_or t.roots tin None) 0))
 node_over_told t symbol sources slice (Some n) e tins filled h = (
-  children_each t.table.count n.row n.few
+  children_each t.table.count n.row (omega (arith, n.few, n.four))
       (subst (AllByRecursion (λ k. k < t.table.count)) (sym (h.1 ∙ e)) (source_records_used t.roots t.table.count sources t.sixteen t.used tins filled)),
   ap₂ (tree_over (trees t.table)) h.0 (h.1 ∙ e),
 )
