@@ -3,6 +3,7 @@ use Rattle.std.proofs.Common.{◌≡◌, ℕ, ◌<◌, true, ◌↔◌, List, []
 use mathlib.Core.List.Memᴰ
 use mathlib.Core.List.{Memᴰ}
 use Rattle.std.specs.List.{AllByRecursion}
+use Rattle.std.proofs.ByRecursion.{All-weaker}
 use Rattle.std.proofs.lemmas.List.{ext_get_or, get_or-map, length-map}
 use Rattle.std.proofs.lemmas.Bool.{lt-ltb}
 use Rattle.rewriting.specs.Terms.{Tree, children, to_list}
@@ -15,11 +16,10 @@ use Rattle.dag.specs.Rows.{blank, children_of}
 use Rattle.dag.specs.Tables.{trees}
 use Rattle.dag.specs.Trees.{blank_tree, tree_at}
 use Rattle.dag.specs.Walks.{listed, Walked}
-use Rattle.dag.proofs.Folding.{tree_of_row}
-use Rattle.dag.proofs.Invariant.{one_tree_each, valid}
+use Rattle.dag.proofs.Folding.{children_before, tree_of_row}
+use Rattle.dag.proofs.Invariant.{one_tree_each}
 use Rattle.dag.proofs.Records.{over_mem, to_list_from_list}
 use Rattle.dag.proofs.Rooting.{root_below, root_there}
-use Rattle.dag.proofs.Shapes.{children_all}
 
 -- WHAT A WALK MARKS
 
@@ -44,11 +44,11 @@ pub children_marked : (t : Table) (marks order : List ℕ) (n : ℕ) → Walked 
 children_marked t marks order n w i h m =
     let rows = vec_items t.rows in
     let r = get_or rows i blank in
-    let v = valid t in
+    let v = t.valid in
     let len = one_tree_each t in
     let here = w.marked i (omega arith) m in
     let is = tree_of_row rows t.count v i h in
-    let below = children_all (length (trees t)) r (v.shaped i h).0 (λ j l. let b = v.children_below i h j l in omega arith) in
+    let below = All-weaker (λ k. k < i) (λ k. k < length (trees t)) (λ k l. omega arith) (children_of r) (children_before rows t.count v i h) in
     all_marked (trees t) marks order n w (children_of r) below
     (λ c k. w.children_there (tree_at (trees t) i) c here
     (subst (λ x. Memᴰ c (to_list (children x))) (sym is) (subst (Memᴰ c) (sym (to_list_from_list (map (tree_at (trees t)) (children_of r)))) k)))

@@ -56,6 +56,10 @@ trees_front rows k n h =
           ∙ (add_rows_append [] (take k rows) (drop k (take n rows)) ∙ f.1),
     )
 
+-- the records of a row's children stand below it
+pub children_before : (rows : List Row) (n : ℕ) → Valid rows n → (i : ℕ) → i < n → AllByRecursion (λ k. k < i) (children_of (get_or rows i blank))
+children_before rows n v i h = children_all i (get_or rows i blank) (omega (arith, v.four i h, (v.shaped i h).0)) (v.children_below i h)
+
 -- a tree over records is the same over more trees
 pub over_front : (ts us : List Tree) (ks : List ℕ) → AllByRecursion (λ k. k < length ts) ks → map (tree_at (ts ++ us)) ks ≡ map (tree_at ts) ks
 over_front ts us [] h = refl
@@ -79,6 +83,6 @@ tree_of_row rows n v k h =
     let f = trees_front rows k n (omega arith) in
     let fits = v.fits in
     let len = length_trees rows k (omega arith) in
-    let kids = subst (λ m. AllByRecursion (λ x. x < m) (children_of r)) (sym len) (children_all k r (v.shaped k h).0 (v.children_below k h)) in
+    let kids = subst (λ m. AllByRecursion (λ x. x < m) (children_of r)) (sym len) (children_before rows n v k h) in
     record_tree rows k n h fits
     ∙ (sym (tree_over_front (table_trees rows k) f.0 r.symbol (children_of r) kids) ∙ ap (λ ts. row_tree ts r) (sym f.1))

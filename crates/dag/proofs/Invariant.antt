@@ -1,8 +1,9 @@
 -- What the type of a table says of its rows and trees. Assumes nothing.
-use Rattle.std.proofs.Common.{◌≡◌, ℕ, ◌<◌, ◌≤◌, List, ◌++◌, length, take, vec_items, sym, ap, ◌∙◌, subst, arith}
+use Rattle.std.proofs.Common.{◌≡◌, ℕ, ◌<◌, ◌≤◌, List, ◌++◌, length, take, Some, None, vec_items, Option, MatchOption, sym, ap, ◌∙◌, subst, arith}
 use mathlib.Core.List.Memᴰ
 use mathlib.Core.List.{Memᴰ}
-use Rattle.std.proofs.lemmas.List.{length-append, take_at}
+use Rattle.std.specs.List.{AllWithin, HoldsAt}
+use Rattle.std.proofs.lemmas.List.{get_or-take, length-append, length-take-le, take_at}
 use Rattle.rewriting.specs.Terms.{children, to_list, Tree}
 use Rattle.rewriting.specs.Subterms.{ChildrenFirst, Distinct}
 use Rattle.rewriting.proofs.Members.{mem_place, place_mem}
@@ -10,27 +11,19 @@ use Rattle.rewriting.proofs.Walking.{Grown, grown_children_first, grown_distinct
 use Rattle.dag.specs.declared.node.Node.{Node}
 use Rattle.dag.specs.declared.row.Row.{Row}
 use Rattle.dag.specs.declared.table.Table.{Table}
-use Rattle.dag.specs.Trees.{blank_tree, table_trees, tree_at, Valid}
+use Rattle.dag.specs.Rows.{blank}
+use Rattle.dag.specs.Trees.{blank_tree, row_tree, table_trees, tree_at}
 use Rattle.dag.specs.Walks.{ChildrenThere}
-use Rattle.dag.specs.Tables.{node_tree, OverRecords, trees}
-use Rattle.dag.proofs.Folding.{length_trees, trees_front}
-use Rattle.dag.proofs.Records.{row_told, trees_grown}
+use Rattle.dag.specs.Tables.{Holds, node_tree, OverRecords, trees}
+use Rattle.dag.proofs.Folding.{length_trees, tree_of_row, trees_front}
+use Rattle.dag.proofs.Records.{row_there, trees_grown}
 
 module _ (t : Table) where
-  pub valid : Valid (vec_items t.rows) t.count
-  valid =
-      record {
-        fits = omega (arith, t.fits, t.rows.ok.0);
-        shaped = λ i h. (t.few i h, t.unused i h);
-        children_below = t.below;
-        unequal = t.unequal;
-      }
-
   pub one_tree_each : length (trees t) ≡ t.count
-  one_tree_each = length_trees (vec_items t.rows) t.count valid.fits
+  one_tree_each = length_trees (vec_items t.rows) t.count t.valid.fits
 
   pub grown_trees : Grown (trees t)
-  grown_trees = trees_grown (vec_items t.rows) t.count valid
+  grown_trees = trees_grown (vec_items t.rows) t.count t.valid
 
   pub distinct_trees : Distinct (trees t)
   distinct_trees = grown_distinct grown_trees
@@ -53,12 +46,21 @@ trees_take rows k n h l =
     let f = trees_front rows k n h in
     sym (ap (take k) f.1 ∙ take_at (table_trees rows k) f.0 k (length_trees rows k (omega arith)))
 
--- nodes over the records of a table: equal trees, equal rows
-pub node_told : (t : Table) (n m : Node) → OverRecords t n → OverRecords t m → node_tree t n ≡ node_tree t m → n.row ≡ m.row
-node_told t n m a b e =
-    let len = one_tree_each t in
-    row_told (trees t) (distinct_trees t) n.row m.row (n.few, n.unused) (m.few, m.unused)
-    (λ j h. omega (arith, a j h)) (λ j h. omega (arith, b j h)) e
+-- the first row in use that is a node's, if there is one, is that of the record of the node's tree
+pub first_row_found : (t : Table) (n : Node) → OverRecords t n → (r : Option ℕ)
+    → MatchOption r (AllWithin (λ q. q ≡ n.row → ⊥) (take t.count (vec_items t.rows)) 0 (length (take t.count (vec_items t.rows))))
+    (λ i. (i < length (take t.count (vec_items t.rows))) × HoldsAt (λ q. q ≡ n.row) (take t.count (vec_items t.rows)) i × AllWithin (λ q. q ≡ n.row → ⊥) (take t.count (vec_items t.rows)) 0 i)
+    → MatchOption r (Memᴰ (node_tree t n) (trees t) → ⊥) (λ k. Holds t k (node_tree t n))
+first_row_found t n over None none = λ m.
+    let rows = vec_items t.rows in
+    let len = length-take-le t.count rows t.valid.fits in
+    let f = row_there rows t.count t.valid n.row n.four (n.few, n.unused) over (grown_trees t) m in
+    none f.0 blank (omega arith) (omega (arith, f.1)) (get_or-take t.count rows f.0 blank f.1 ∙ f.2)
+first_row_found t n over (Some k) h =
+    let rows = vec_items t.rows in
+    let len = length-take-le t.count rows t.valid.fits in
+    let l : k < t.count = omega (arith, h.0) in
+    (l, tree_of_row rows t.count t.valid k l ∙ ap (row_tree (trees t)) (sym (get_or-take t.count rows k blank l) ∙ h.1 blank))
 
 -- the same trees, as many records; more trees, more records
 pub same_count : (before after : Table) → trees after ≡ trees before → after.count ≡ before.count

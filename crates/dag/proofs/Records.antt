@@ -36,13 +36,13 @@ records_told ts d (k ∷ ks) (l ∷ ls) p q e =
     cc (d blank_tree k l p.0 q.0 h, records_told ts d ks ls p.1 q.1 r)
 
 -- rows in order over the records of distinct trees: equal trees, equal rows
-pub row_told : (ts : List Tree) → Distinct ts → (r q : Row) → Shaped r → Shaped q → ChildrenBelow (length ts) r → ChildrenBelow (length ts) q
+pub row_told : (ts : List Tree) → Distinct ts → (r q : Row) → length r.children ≡ 4 → length q.children ≡ 4 → Shaped r → Shaped q → ChildrenBelow (length ts) r → ChildrenBelow (length ts) q
     → row_tree ts r ≡ row_tree ts q → r ≡ q
-row_told ts d r q s u a b e =
+row_told ts d r q w v s u a b e =
     let f : r.symbol ≡ q.symbol = cc in
     let g : from_list (map (tree_at ts) (children_of r)) ≡ from_list (map (tree_at ts) (children_of q)) = cc in
-    same_row r q s u f
-    (records_told ts d (children_of r) (children_of q) (children_all (length ts) r s.0 a) (children_all (length ts) q u.0 b) (from_list_injective _ _ g))
+    same_row r q w v s u f
+    (records_told ts d (children_of r) (children_of q) (children_all (length ts) r (omega (arith, s.0)) a) (children_all (length ts) q (omega (arith, u.0)) b) (from_list_injective _ _ g))
 
 -- THE TREES OF A TABLE GROW BY NEW TREES BEHIND THEIR CHILDREN
 
@@ -65,22 +65,23 @@ module _ (rows : List Row) (n : ℕ) (v : Valid rows n) where
       let fits = v.fits in
       record {
         fits = omega arith;
+        four = λ i l. v.four i (omega arith);
         shaped = λ i l. v.shaped i (omega arith);
         children_below = λ i l. v.children_below i (omega arith);
         unequal = λ i j a b. v.unequal i j a (omega arith);
       }
 
   -- a row in order is that of a record already if its tree is there
-  pub row_there : (r : Row) → Shaped r → ChildrenBelow n r → Grown (table_trees rows n) → Memᴰ (row_tree (table_trees rows n) r) (table_trees rows n)
+  pub row_there : (r : Row) → length r.children ≡ 4 → Shaped r → ChildrenBelow n r → Grown (table_trees rows n) → Memᴰ (row_tree (table_trees rows n) r) (table_trees rows n)
       → (i : ℕ) × (i < n) × (get_or rows i blank ≡ r)
-  row_there r s b g m =
+  row_there r w s b g m =
       let ts = table_trees rows n in
       let len = length_trees rows n v.fits in
       let p = mem_place blank_tree m in
       let l : p.0 < n = omega (arith, p.1) in
       let q = get_or rows p.0 blank in
       let wide : ChildrenBelow (length ts) q = λ j h. let k = v.children_below p.0 l j h in omega arith in
-      (p.0, l, row_told ts (grown_distinct g) q r (v.shaped p.0 l) s wide (λ j h. let k = b j h in omega arith) (sym (tree_of_row rows n v p.0 l) ∙ p.2))
+      (p.0, l, row_told ts (grown_distinct g) q r (v.four p.0 l) w (v.shaped p.0 l) s wide (λ j h. let k = b j h in omega arith) (sym (tree_of_row rows n v p.0 l) ∙ p.2))
 
 grown_front : (rows : List Row) (n : ℕ) → Valid rows n → (m : ℕ) → m ≤ n → Grown (table_trees rows m)
 grown_front rows n v zero h = subst Grown (sym (no_trees rows)) empty
@@ -91,10 +92,11 @@ grown_front rows n v (suc m) h =
     let ts = table_trees rows m in
     let r = get_or rows m blank in
     let len = length_trees rows m (omega arith) in
+    let four = v.four m (omega arith) in
     let s = v.shaped m (omega arith) in
     let b = v.children_below m (omega arith) in
-    let new : Memᴰ (row_tree ts r) ts → ⊥ = λ k. let q = row_there rows m w r s b g k in v.unequal q.0 m q.1 (omega arith) q.2 in
-    let kids = subst (λ k. AllByRecursion (λ x. x < k) (children_of r)) (sym len) (children_all m r s.0 b) in
+    let new : Memᴰ (row_tree ts r) ts → ⊥ = λ k. let q = row_there rows m w r four s b g k in v.unequal q.0 m q.1 (omega arith) q.2 in
+    let kids = subst (λ k. AllByRecursion (λ x. x < k) (children_of r)) (sym len) (children_all m r (omega (arith, s.0)) b) in
     let more : table_trees rows (suc m) ≡ ts ++ (row_tree ts r ∷ []) = ap (table_trees rows) (sym (add-one m)) ∙ trees_more rows m (omega arith) in
     subst Grown (sym more) (grown g new (child_mem ts r.symbol (children_of r) kids))
 
@@ -102,9 +104,9 @@ pub trees_grown : (rows : List Row) (n : ℕ) → Valid rows n → Grown (table_
 trees_grown rows n v = grown_front rows n v n (omega arith)
 
 -- a table stays in order with one row more, in order and of a new tree
-pub valid_more : (rows : List Row) (n : ℕ) (r : Row) → Valid rows n → n < length rows → Shaped r → ChildrenBelow n r
+pub valid_more : (rows : List Row) (n : ℕ) (r : Row) → Valid rows n → n < length rows → length r.children ≡ 4 → Shaped r → ChildrenBelow n r
     → (Memᴰ (row_tree (table_trees rows n) r) (table_trees rows n) → ⊥) → Valid (set rows n r) (n + 1)
-valid_more rows n r v l s b new =
+valid_more rows n r v l four s b new =
     let old : (i : ℕ) → i < n → get_or (set rows n r) i blank ≡ get_or rows i blank = λ i h. get_or-set_other rows n i r blank (omega arith) in
     let here : get_or (set rows n r) n blank ≡ r = get_or-set_same rows n r blank l in
     let at : (i : ℕ) → i < n + 1 → (P : Row → Type 0) → (i < n → P (get_or rows i blank)) → (i ≡ n → P r) → P (get_or (set rows n r) i blank) =
@@ -113,6 +115,7 @@ valid_more rows n r v l s b new =
     (λ k. let e : i ≡ n = omega arith in subst P (sym (ap (λ m. get_or (set rows n r) m blank) e ∙ here)) (c e)) (cases_lt i n) in
     record {
       fits = omega (arith, length-set rows n r);
+      four = λ i h. at i h (λ q. length q.children ≡ 4) (v.four i) (λ e. four);
       shaped = λ i h. at i h Shaped (v.shaped i) (λ e. s);
       children_below = λ i h. at i h (ChildrenBelow i) (v.children_below i) (λ e j k. omega (arith, b j k));
       unequal = λ i j a h e. at j h (λ q. get_or rows i blank ≡ q → ⊥) (λ k. v.unequal i j a k) (λ k m. new (there i (omega arith) m)) (sym (old i (omega arith)) ∙ e);

@@ -15,10 +15,10 @@ use Rattle.dag.specs.Roots.{ChildrenMarked, renumber, Slid}
 use Rattle.dag.specs.Rows.{blank, children_of, ChildrenBelow}
 use Rattle.dag.specs.Tables.{capacity, node_tree, OverRecords, trees}
 use Rattle.dag.specs.Trees.{blank_tree, from_list, table_trees, tree_at, tree_over, Valid}
-use Rattle.dag.proofs.Folding.{length_trees, tree_of_row}
-use Rattle.dag.proofs.Invariant.{one_tree_each, valid}
+use Rattle.dag.proofs.Folding.{children_before, length_trees, tree_of_row}
+use Rattle.dag.proofs.Invariant.{one_tree_each}
 use Rattle.dag.proofs.Records.{trees_grown}
-use Rattle.dag.proofs.Shapes.{children_all, children_each}
+use Rattle.dag.proofs.Shapes.{children_each}
 
 pub slide_starts : (ts : List Tree) (marks numbers : List ℕ) → Slid ts marks 0 [] numbers
 slide_starts ts marks numbers = record { placed = λ k h m. absurd (omega arith); only = λ s m. absurd (Memᴰ.not-nil m) }
@@ -84,11 +84,11 @@ pub slid_node : (rows : List Row) (n : ℕ) → Valid rows n → (marks : List �
 slid_node rows n v marks cm i h mk t numbers s m f e =
     let r = get_or rows i blank in
     let ts = table_trees rows n in
-    let p = over_slid ts marks i (trees t) numbers s (children_of r) (children_all i r (v.shaped i h).0 (v.children_below i h)) (cm i h mk) in
+    let p = over_slid ts marks i (trees t) numbers s (children_of r) (children_before rows n v i h) (cm i h mk) in
     let same : node_tree t m ≡ tree_at ts i =
     ap₂ (tree_over (trees t)) f e ∙ (ap (λ ks. node r.symbol (from_list ks)) p.0 ∙ sym (tree_of_row rows n v i h)) in
     record {
-      over = subst (λ k. ChildrenBelow k m.row) (one_tree_each t) (children_each (length (trees t)) m.row m.few (subst (AllByRecursion (λ k. k < length (trees t))) (sym e) p.1));
+      over = subst (λ k. ChildrenBelow k m.row) (one_tree_each t) (children_each (length (trees t)) m.row (omega (arith, m.few, m.four)) (subst (AllByRecursion (λ k. k < length (trees t))) (sym e) p.1));
       same = same;
       new = λ q. not_slid ts marks i (trees t) numbers s (grown_distinct (trees_grown rows n v)) (omega (arith, length_trees rows n v.fits)) (Memᴰ.cast (sym same) q);
     }
@@ -146,12 +146,12 @@ module _ (old : Table) (rows : List Row) (n : ℕ) (e : rows ≡ vec_items old.r
   old_row = is ∙ s.rest i (omega arith)
 
   old_valid : Valid rows n
-  old_valid = subst (Valid rows) (sym f) (subst (λ xs. Valid xs old.count) (sym e) (valid old))
+  old_valid = subst (Valid rows) (sym f) (subst (λ xs. Valid xs old.count) (sym e) old.valid)
 
   pub sliding_children : AllByRecursion (λ k. k < i) (children_of r)
   sliding_children =
       subst (λ q. AllByRecursion (λ k. k < i) (children_of q)) (sym old_row)
-      (children_all i (get_or rows i blank) (old_valid.shaped i h).0 (old_valid.children_below i h))
+      (children_before rows n old_valid i h)
 
   pub sliding_node : ChildrenMarked (vec_items old.rows) old.count marks → (get_or marks i 0 ≡ 0 → ⊥)
       → (m : Node) → m.row.symbol ≡ r.symbol → children_of m.row ≡ renumber numbers (children_of r) → SlidNode (table_trees rows n) i t m

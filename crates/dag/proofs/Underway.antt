@@ -1,9 +1,9 @@
 -- Building a tree from the places of its term, from the last place to the first. Assumes nothing.
-use Rattle.std.proofs.Common.{◌≡◌, ℕ, suc, ◌+◌, ◌-◌, ◌<◌, ◌≤◌, ◌⊎◌, List, [], ◌∷◌, ◌++◌, map, length, get_or, take, drop, vec_items, vec_len, sym, refl, ap, ◌∙◌, subst, ap₂, inl, inr, ⊎_elim, add-one, arith}
+use Rattle.std.proofs.Common.{◌≡◌, ℕ, suc, ◌+◌, ◌-◌, ◌<◌, ◌≤◌, ◌⊎◌, List, [], ◌∷◌, ◌++◌, map, length, get_or, take, drop, reverse, vec_items, vec_len, sym, refl, ap, ◌∙◌, subst, ap₂, inl, inr, ⊎_elim, add-one, arith}
 use mathlib.Core.List.Memᴰ
 use mathlib.Core.List.{Memᴰ}
 use Rattle.std.specs.List.{AllByRecursion}
-use Rattle.std.proofs.lemmas.List.{append_assoc, append-nil, drop_all, drop_more, get_or_append_left, get_or-map, length-drop, length-map, take_at, take-take}
+use Rattle.std.proofs.lemmas.List.{append_assoc, append-nil, drop_all, drop_more, get_or_append_left, get_or_default, get_or-map, get_or-reverse, length-map, length-reverse, take_at, take-take}
 use Rattle.rewriting.specs.Cards.{Signature}
 use Rattle.rewriting.specs.Places.{forest, places}
 use Rattle.rewriting.specs.Places as theory
@@ -14,8 +14,10 @@ use Rattle.rewriting.proofs.Walking.{walk_has, walk_keeps}
 use Rattle.card.specs.declared.record.Place.{Place}
 use Rattle.card.specs.declared.record.Place.TheVariants.{Empty}
 use Rattle.card.specs.Records.{stored}
+use Rattle.dag.specs.declared.stack.Stack.{Stack}
 use Rattle.dag.specs.declared.table.Table.{Table}
-use Rattle.dag.specs.Places.{binding, Bound, FewChildren, NoRoom, place_tree, Pushed, Readable, Spells, stack_trees, taken}
+use Rattle.dag.specs.Places.{binding, Bound, FewChildren, NoRoom, place_tree, Pushed, Readable, Spells, taken}
+use Rattle.dag.specs.Stacks.{records_on, stack_trees}
 use Rattle.dag.specs.Tables.{capacity, Full, KeepsRecords, trees}
 use Rattle.dag.specs.Trees.{blank_tree, tree_at}
 use Rattle.dag.proofs.Adding.{one_missing}
@@ -38,37 +40,41 @@ longer xs added t =
     })
 
 -- the places from i on are read: their terms' trees are on the stack
-pub record Underway (Σ : Signature) (t : Term) (bindings : List ℕ) (before after : Table) (stack : List ℕ) (top i : ℕ) : Type 0 where
+pub record Underway (Σ : Signature) (t : Term) (bindings : List ℕ) (before after : Table) (stack : Stack) (i : ℕ) : Type 0 where
   pub capacity_same : capacity after ≡ capacity before
   pub kept : KeepsRecords before after
   pub added : List Tree
   pub front : trees after ≡ trees before ++ added
   pub only : (s : Tree) → Memᴰ s added → Subterm s (apply (binding (trees before) bindings) t)
-  pub inside : top ≤ length stack
-  pub room : i ≤ top
-  pub records : AllByRecursion (λ k. k < after.count) (drop top stack)
-  pub stacked : stack_trees (trees after) stack top ≡ map (apply (binding (trees before) bindings)) (forest Σ (drop i (places t)))
+  pub room : i ≤ stack.top
+  pub records : AllByRecursion (λ k. k < after.count) (records_on stack)
+  pub stacked : stack_trees (trees after) stack ≡ map (apply (binding (trees before) bindings)) (forest Σ (drop i (places t)))
 
 length_spelled : (Σ : Signature) (ps : List Place) (t : Term) → Spells Σ ps t → length ps ≡ length (places t)
 length_spelled Σ ps t sp = ap length sp.spelled ∙ length-map (places t) stored
 
-pub building_starts : (Σ : Signature) (ps : List Place) (t : Term) → Spells Σ ps t → (bindings : List ℕ) (before : Table) (stack : List ℕ) → length ps ≤ length stack
-    → Underway Σ t bindings before before stack (length stack) (length ps)
-building_starts Σ ps t sp bindings before stack h =
-    let none = drop_all (length stack) stack (omega arith) in
+pub building_starts : (Σ : Signature) (ps : List Place) (t : Term) → Spells Σ ps t → (bindings : List ℕ) (before : Table) (stack : Stack) → length ps ≤ stack.top → records_on stack ≡ []
+    → Underway Σ t bindings before before stack (length ps)
+building_starts Σ ps t sp bindings before stack h none =
     record {
       capacity_same = refl;
       kept = refl;
       added = [];
       front = sym (append-nil (trees before));
       only = λ s m. absurd (Memᴰ.not-nil m);
-      inside = omega arith;
       room = h;
       records = subst (AllByRecursion (λ k. k < before.count)) (sym none) tt;
       stacked =
           ap (map (tree_at (trees before))) none
           ∙ sym (ap (λ ps. map (apply (binding (trees before) bindings)) (forest Σ ps)) (drop_all (length ps) (places t) (omega (arith, length_spelled Σ ps t sp))));
     }
+
+-- the places are read from the last to the first
+pub place_read : (ps : List Place) (n : ℕ) (p : Place) → (n < length (reverse ps)) × (p ≡ get_or (reverse ps) n p) → (n < length ps) × (p ≡ get_or ps ((length ps - n) - 1) Empty)
+place_read ps n p h =
+    let l : n < length ps = omega (arith, length-reverse ps, h.0) in
+    let m : length ps - 1 - n ≡ (length ps - n) - 1 = omega arith in
+    (l, h.1 ∙ (get_or-reverse ps n p l ∙ (ap (λ i. get_or ps i p) m ∙ get_or_default ps ((length ps - n) - 1) p Empty (omega arith))))
 
 keeps_trans : (a b c : Table) → a.count ≤ b.count → KeepsRecords a b → KeepsRecords b c → KeepsRecords a c
 keeps_trans a b c l p q =
@@ -77,8 +83,8 @@ keeps_trans a b c l p q =
 
 -- ONE PLACE MORE
 
-module _ (Σ : Signature) (ps : List Place) (t : Term) (sp : Spells Σ ps t) (bindings : List ℕ) (before : Table) (bound : Bound before.count bindings t) (after : Table) (stack : List ℕ) (top j : ℕ)
-    (u : Underway Σ t bindings before after stack top j) (more : 0 < j) (fits : j ≤ length ps) where
+module _ (Σ : Signature) (ps : List Place) (t : Term) (sp : Spells Σ ps t) (bindings : List ℕ) (before : Table) (bound : Bound before.count bindings t) (after : Table) (stack : Stack) (j : ℕ)
+    (u : Underway Σ t bindings before after stack j) (more : 0 < j) (fits : j ≤ length ps) where
   -- the place that is next
   abbrev i : ℕ
   i = j - 1
@@ -116,49 +122,45 @@ module _ (Σ : Signature) (ps : List Place) (t : Term) (sp : Spells Σ ps t) (bi
       ap (λ ts. tree_at ts (get_or bindings v 0)) u.front
       ∙ get_or_append_left (trees before) u.added blank_tree (get_or bindings v 0) (omega (arith, one_tree_each before))
 
-  many : length stack - top ≡ length (forest Σ (drop (suc i) (places t)))
+  many : length (records_on stack) ≡ length (forest Σ (drop (suc i) (places t)))
   many =
-      sym (length-drop top stack)
-      ∙ (sym (length-map (drop top stack) (tree_at (trees after)))
+      sym (length-map (records_on stack) (tree_at (trees after)))
       ∙ (ap length u.stacked
-      ∙ (length-map (forest Σ (drop j (places t))) (apply σ) ∙ ap (λ n. length (forest Σ (drop n (places t)))) (sym e ∙ add-one i))))
+      ∙ (length-map (forest Σ (drop j (places t))) (apply σ) ∙ ap (λ n. length (forest Σ (drop n (places t)))) (sym e ∙ add-one i)))
 
-  pub readable : FewChildren Σ → Readable Σ after.count bindings (get_or ps i Empty) (length stack - top)
-  readable few = subst (λ p. Readable Σ after.count bindings p (length stack - top)) (sym place_is) (go q refl (term_supplied Σ t sp.on i (theory.Variable 0) l))
+  pub readable : FewChildren Σ → Readable Σ after.count bindings (get_or ps i Empty) (length (records_on stack))
+  readable few = subst (λ p. Readable Σ after.count bindings p (length (records_on stack))) (sym place_is) (go q refl (term_supplied Σ t sp.on i (theory.Variable 0) l))
     where
-      go : (p : theory.Place) → q ≡ p → Supplied Σ p (length (forest Σ (drop (suc i) (places t)))) → Readable Σ after.count bindings (stored p) (length stack - top)
+      go : (p : theory.Place) → q ≡ p → Supplied Σ p (length (forest Σ (drop (suc i) (places t)))) → Readable Σ after.count bindings (stored p) (length (records_on stack))
       go (theory.Symbol f) h s = (s.0, s.1, omega (arith, many, s.2), few f s.0 s.1)
       go (theory.Variable v) h s = ((bound_at v h).0, omega (arith, (bound_at v h).1, count_grows before after u.added u.front))
 
   -- the tree that the place puts on the stack
   abbrev put : Tree
-  put = place_tree Σ (binding (trees after) bindings) (get_or ps i Empty) (stack_trees (trees after) stack top)
+  put = place_tree Σ (binding (trees after) bindings) (get_or ps i Empty) (stack_trees (trees after) stack)
 
   put_is : put ≡ place_tree Σ σ (stored q) on_stack
   put_is =
-      ap (λ p. place_tree Σ (binding (trees after) bindings) p (stack_trees (trees after) stack top)) place_is
+      ap (λ p. place_tree Σ (binding (trees after) bindings) p (stack_trees (trees after) stack)) place_is
       ∙ (ap (place_tree Σ (binding (trees after) bindings) (stored q)) u.stacked ∙ same_tree on_stack q refl)
 
   put_within : Subterm put (apply σ t)
   put_within = stack_within σ Σ t sp.on i put (subst (Memᴰ put) (sym next_trees) (Memᴰ.head put_is))
 
-  pub building_goes_on : (after' : Table) (stack' : List ℕ) (new : ℕ) → Pushed after after' stack stack' top new (taken Σ (get_or ps i Empty)) put
-      → capacity after' ≡ capacity after → KeepsRecords after after' → Underway Σ t bindings before after' stack' new i
-  building_goes_on after' stack' new p c k =
+  pub building_goes_on : (after' : Table) (stack' : Stack) → Pushed after after' stack stack' (taken Σ (get_or ps i Empty)) put
+      → capacity after' ≡ capacity after → KeepsRecords after after' → Underway Σ t bindings before after' stack' i
+  building_goes_on after' stack' p c k =
       let more = longer (trees before) u.added put in
       let room = u.room in
       let moved = p.moved in
-      let stacked : stack_trees (trees after') stack' new ≡ map (apply σ) (forest Σ (drop i (places t))) =
+      let stacked : stack_trees (trees after') stack' ≡ map (apply σ) (forest Σ (drop i (places t))) =
       p.stacked ∙ (ap₂ ◌∷◌ put_is (ap₂ drop (ap (taken Σ) place_is) u.stacked) ∙ sym next_trees) in
-      let above : 0 < length stack' - new =
-      omega (arith, length-drop new stack', length-map (drop new stack') (tree_at (trees after')), ap length p.stacked) in
       record {
         capacity_same = c ∙ u.capacity_same;
         kept = keeps_trans before after after' (count_grows before after u.added u.front) u.kept k;
         added = more.all;
         front = p.added ∙ (ap (add put) u.front ∙ more.front);
         only = λ s m. ⊎_elim (u.only s) (λ h. subst (λ x. Subterm x (apply σ t)) (sym h) put_within) (more.only s m);
-        inside = omega arith;
         room = omega arith;
         records = p.records;
         stacked = stacked;

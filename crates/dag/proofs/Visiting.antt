@@ -10,9 +10,12 @@ use Rattle.rewriting.specs.Terms.{Tree, node, Trees, children, to_list}
 use Rattle.rewriting.specs.Subterms.{add, Distinct, walk, walks}
 use Rattle.rewriting.proofs.Walking.{child_in, proper_size, walks_has, walks_mem}
 use Rattle.rewriting.proofs.Members.{fewer_members, place_mem}
+use Rattle.dag.specs.declared.table.Table.{Table}
+use Rattle.dag.specs.Tables.{trees}
 use Rattle.dag.specs.Trees.{blank_tree, from_list, tree_at}
 use Rattle.dag.specs.Walks.{ChildrenThere, Clear, listed, Walked}
 use Rattle.dag.proofs.Adding.{add_new, distinct_push, one_missing, walk_old}
+use Rattle.dag.proofs.Invariant.{one_tree_each}
 use Rattle.dag.proofs.Records.{over_mem}
 
 pub walk_starts : (ts : List Tree) (marks order : List ℕ) → length ts ≤ length marks → length ts ≤ length order → Clear marks → Walked ts marks order 0
@@ -36,6 +39,11 @@ pub walked_few : (ts : List Tree) (marks order : List ℕ) (n : ℕ) → Walked 
 walked_few ts marks order n w =
     let k = fewer_members (listed ts order n) ts w.distinct (over_mem ts (take n order) w.records) in
     omega (arith, length_listed ts order n w.filled)
+
+-- the listed records, in whatever table of numbers they stand now, are records in use
+pub listed_records : (t : Table) (marks order now : List ℕ) (n : ℕ) → now ≡ order → Walked (trees t) marks order n → AllByRecursion (λ k. k < t.count) (take n now)
+listed_records t marks order now n e w =
+    subst (λ o. AllByRecursion (λ k. k < t.count) (take n o)) (sym e) (subst (λ m. AllByRecursion (λ k. k < m) (take n order)) (one_tree_each t) w.records)
 
 -- a record that is marked is listed, and so is all that is under it
 pub visited_before : (ts : List Tree) (marks order : List ℕ) (n i : ℕ) → Walked ts marks order n → i < length ts → (get_or marks i 0 ≡ 0 → ⊥)

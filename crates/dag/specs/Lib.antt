@@ -2,6 +2,8 @@ pub mod Rows
 pub mod Trees
 pub mod Tables
 pub mod Walks
+pub mod Walking
 pub mod Roots
+pub mod Stacks
 pub mod Places
 pub mod Compactness

@@ -10,7 +10,9 @@ use Rattle.rewriting.specs.Subterms.{add, Subterm, walk}
 use Rattle.card.specs.declared.record.Place.{Place}
 use Rattle.card.specs.declared.record.Place.TheVariants.{Empty, Symbol, Variable}
 use Rattle.card.specs.Records.{side_term, stored}
+use Rattle.dag.specs.declared.stack.Stack.{Stack}
 use Rattle.dag.specs.declared.table.Table.{Table}
+use Rattle.dag.specs.Stacks.{records_on, stack_trees}
 use Rattle.dag.specs.Tables.{capacity, Holds, trees}
 use Rattle.dag.specs.Trees.{from_list, tree_at}
 
@@ -35,10 +37,6 @@ binding ts bindings v = tree_at ts (slice_index bindings v)
 abbrev pub spelled_tree : Signature → List Tree → List ℕ → List Place → Tree
 spelled_tree Σ ts bindings ps = apply (binding ts bindings) (side_term Σ ps)
 
--- the trees of the records on a stack that fills a table from its end
-abbrev pub stack_trees : List Tree → List ℕ → ℕ → List Tree
-stack_trees ts stack top = map (tree_at ts) (drop top stack)
-
 -- how many trees a place takes from the stack, and the tree that it puts there; an empty place is never read, and any
 -- answer will do
 abbrev pub taken : Signature → Place → ℕ
@@ -58,11 +56,11 @@ Readable Σ n bindings (Symbol f) many = (a : ℕ) × (Σ f ≡ Some a) × (a �
 Readable Σ n bindings (Variable v) many = (v < length bindings) × (slice_index bindings v < n)
 
 -- the tree t is in the table, and its record is on top of the stack in the place of the n topmost ones
-pub record Pushed (before after : Table) (stack stack' : List ℕ) (top new n : ℕ) (t : Tree) : Type 0 where
-  pub moved : new + 1 ≡ top + n
+pub record Pushed (before after : Table) (stack stack' : Stack) (n : ℕ) (t : Tree) : Type 0 where
+  pub moved : stack'.top + 1 ≡ stack.top + n
   pub added : trees after ≡ add t (trees before)
-  pub records : AllByRecursion (λ k. k < after.count) (drop new stack')
-  pub stacked : stack_trees (trees after) stack' new ≡ t ∷ drop n (stack_trees (trees before) stack top)
+  pub records : AllByRecursion (λ k. k < after.count) (records_on stack')
+  pub stacked : stack_trees (trees after) stack' ≡ t ∷ drop n (stack_trees (trees before) stack)
 
 -- the tree t was built, and record k has it: the trees before stand in front, only subterms of t that were not there were
 -- added, all its subterms are there, and so the table can hold the trees before and the subterms of t

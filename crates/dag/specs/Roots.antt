@@ -3,11 +3,12 @@ use Rattle.std.specs.Prelude.{◌≡◌, ℕ, ◌<◌, Bool, true, ◌↔◌, Li
 use mathlib.Core.List.{Memᴰ}
 use Rattle.std.specs.List.{AllByRecursion}
 use Rattle.rewriting.specs.Terms.{Tree, Trees, nil, cons}
-use Rattle.rewriting.specs.Subterms.{SubtermIn}
+use Rattle.rewriting.specs.Subterms.{SubtermIn, walks}
 use Rattle.rewriting.specs.Counting.{distinct_count}
 use Rattle.dag.specs.declared.row.Row.{Row}
 use Rattle.dag.specs.Rows.{blank, children_of}
 use Rattle.dag.specs.Trees.{tree_at}
+use Rattle.dag.specs.Walks.{listed, Walked}
 
 -- a root is no record, or one of the first n
 abbrev pub in_use : ℕ → Option ℕ → Bool
@@ -34,6 +35,12 @@ present (Some t ∷ os) = cons t (present os)
 -- all the trees that roots hold
 abbrev pub root_trees : List Tree → List (Option ℕ) → Trees
 root_trees ts roots = present (held_trees ts roots)
+
+-- a walk from the roots came to the records of their subterms, and marked and listed them
+pub record RootsWalked (ts : List Tree) (roots : List (Option ℕ)) (marks order : List ℕ) : Type 0 where
+  pub count : ℕ
+  pub walked : Walked ts marks order count
+  pub list : listed ts order count ≡ walks (root_trees ts roots) []
 
 -- with each marked record its children are marked
 abbrev pub ChildrenMarked : List Row → ℕ → List ℕ → Type 0

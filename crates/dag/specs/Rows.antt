@@ -1,21 +1,18 @@
 -- The rows of a node table: their children, and which rows are in order. Assumes nothing.
-use Rattle.std.specs.Prelude.{◌≡◌, ℕ, ◌==◌, ◌<◌, ◌≤◌, Bool, ◌&&◌, List, [], ◌∷◌, take, drop, slice_index}
+use Rattle.std.specs.Prelude.{◌≡◌, ℕ, ◌<◌, ◌≤◌, List, [], ◌∷◌, take, drop, slice_index}
 use Rattle.dag.specs.declared.row.Row.{Row}
 
 -- the row that is all zero; reads past the end of a table give it
 abbrev pub blank : Row
-blank = record { symbol = 0; arity = 0; first = 0; second = 0; third = 0; fourth = 0 }
-
-abbrev pub child_places : Row → List ℕ
-child_places r = r.first ∷ r.second ∷ r.third ∷ r.fourth ∷ []
+blank = record { symbol = 0; arity = 0; children = 0 ∷ 0 ∷ 0 ∷ 0 ∷ [] }
 
 -- the records of a row's children, from left to right
 abbrev pub children_of : Row → List ℕ
-children_of r = take r.arity (child_places r)
+children_of r = take r.arity r.children
 
 -- 0 stands in each child place that is not used
 abbrev pub UnusedZero : Row → Type 0
-UnusedZero r = (j : ℕ) → slice_index (drop r.arity (child_places r)) j ≡ 0
+UnusedZero r = (j : ℕ) → slice_index (drop r.arity r.children) j ≡ 0
 
 -- a row that is in order as a node
 abbrev pub Shaped : Row → Type 0
@@ -23,9 +20,4 @@ Shaped r = (r.arity ≤ 4) × UnusedZero r
 
 -- each child is a record below n
 abbrev pub ChildrenBelow : ℕ → Row → Type 0
-ChildrenBelow n r = (j : ℕ) → j < r.arity → slice_index (child_places r) j < n
-
--- two rows field by field, as a test
-abbrev pub same_fields : Row → Row → Bool
-same_fields r s =
-    r.symbol == s.symbol && r.arity == s.arity && r.first == s.first && r.second == s.second && r.third == s.third && r.fourth == s.fourth
+ChildrenBelow n r = (j : ℕ) → j < r.arity → slice_index r.children j < n

@@ -1,5 +1,5 @@
 -- The trees that the rows of a node table stand for, and which tables are in order. Assumes nothing.
-use Rattle.std.specs.Prelude.{ℕ, ◌<◌, ◌≤◌, List, [], ◌∷◌, ◌++◌, map, length, take, ◌≢◌, slice_index_or}
+use Rattle.std.specs.Prelude.{◌≡◌, ℕ, ◌<◌, ◌≤◌, List, [], ◌∷◌, ◌++◌, map, length, take, ◌≢◌, slice_index_or}
 use Rattle.rewriting.specs.Terms.{Tree, node, Trees, nil, cons}
 use Rattle.dag.specs.declared.row.Row.{Row}
 use Rattle.dag.specs.Rows.{blank, children_of, Shaped, ChildrenBelow}
@@ -35,6 +35,7 @@ table_trees rows n = add_rows [] (take n rows)
 -- the first n rows are in order, no two of them are equal, and children stand below their parents
 pub record Valid (rows : List Row) (n : ℕ) : Type 0 where
   pub fits : n ≤ length rows
+  pub four : (i : ℕ) → i < n → length (slice_index_or rows i blank).children ≡ 4
   pub shaped : (i : ℕ) → i < n → Shaped (slice_index_or rows i blank)
   pub children_below : (i : ℕ) → i < n → ChildrenBelow i (slice_index_or rows i blank)
   pub unequal : (i j : ℕ) → i < j → j < n → slice_index_or rows i blank ≢ slice_index_or rows j blank

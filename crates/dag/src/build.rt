@@ -1,84 +1,70 @@
 // Building a term's tree from its places, for recipes and for right sides of rules alike.
-ghost use Rattle.std.specs.Prelude.{◌≡◌, ◌+◌, ◌-◌, ◌<◌, ◌≤◌, ◌∷◌, length, take, drop, MatchOption};
+ghost use Rattle.std.specs.Prelude.{◌≡◌, ◌<◌, ◌≤◌, length, take, MatchOption};
 ghost use Rattle.std.specs.List.{AllByRecursion};
 ghost use Rattle.rewriting.specs.Terms.{node};
 ghost use Rattle.card.specs.Records.{side_term};
-ghost use Rattle.dag.specs.Places.{binding, Bound, Built, FewChildren, NoRoom, place_tree, Pushed, Readable, spelled_tree, Spells, stack_trees, taken};
+ghost use Rattle.dag.specs.Places.{binding, Bound, Built, FewChildren, NoRoom, place_tree, Pushed, Readable, spelled_tree, Spells, taken};
+ghost use Rattle.dag.specs.Stacks.{records_on, stack_trees};
 ghost use Rattle.dag.specs.Tables.{capacity, Full, KeepsRecords, trees};
 ghost use Rattle.dag.specs.Trees.{from_list};
 
 use crate::node::Node;
 use crate::signature::Signature;
+use crate::stack::Stack;
 use crate::table::Table;
 use card::record::Place;
 
-// A record on top of a stack in the place of the `taken` topmost ones. The stack fills its table from the end.
-fn replace_top(stack: &mut [u16], top: usize, taken: usize, item: u16) -> usize
-    requires { (0 < top + taken) × (top + taken ≤ length stack.old) }
-    ensures top { result + 1 ≡ top + taken }
-    ensures stack { drop result stack.new ≡ item ∷ drop (top + taken) stack.old }
-{
-    let at = top + taken - 1;
-    stack[at] = item;
-    at
-}
-
-// The record of a symbol over the topmost records, in their place.
-fn push_symbol(
-    table: &mut Table,
-    symbol: u8,
-    arity: usize,
-    stack: &mut [u16],
-    top: usize,
-) -> Option<usize>
+// Puts the record of a symbol over the topmost records in their place.
+fn push_symbol(table: &mut Table, symbol: u8, arity: usize, stack: &mut Stack) -> Option<()>
     requires few { arity ≤ 4 }
-    requires room { (0 < top) × (top + arity ≤ length stack.old) }
-    requires records { AllByRecursion (λ k. k < table.old.count) (drop top stack.old) }
+    requires room { 0 < stack.old.top }
+    requires there { arity ≤ length (records_on stack.old) }
+    requires records { AllByRecursion (λ k. k < table.old.count) (records_on stack.old) }
     ensures capacity { capacity table.new ≡ capacity table.old }
     ensures records { KeepsRecords table.old table.new }
     ensures cases { MatchOption result
-        (Full table.old table.new (node symbol (from_list (take arity (stack_trees (trees table.old) stack.old top)))))
-        (λ new. Pushed table.old table.new stack.old stack.new top new arity
-        (node symbol (from_list (take arity (stack_trees (trees table.old) stack.old top))))) }
+        (Full table.old table.new (node symbol (from_list (take arity (stack_trees (trees table.old) stack.old)))))
+        (λ _. Pushed table.old table.new stack.old stack.new arity
+        (node symbol (from_list (take arity (stack_trees (trees table.old) stack.old))))) }
 {
-    let node = Node::new(symbol, &stack[top..top + arity])?;
-    let Some(at) = table.intern(node) else {
-        return None;
-    };
-    Some(replace_top(stack, top, arity, at))
+    let node = Node::new(symbol, stack.topmost(arity))?;
+    let record = table.intern(node)?;
+    stack.replace(arity, record);
+    Some(())
 }
 
-// What a place puts on the stack: the record that a variable is bound to, or that of a symbol over the topmost records.
+// Puts on the stack what a place stands for: the record that a variable is bound to, or that of a symbol over the topmost
+// records.
 fn push_place<S: Signature>(
     table: &mut Table,
     signature: &S,
     place: Place,
     bindings: &[u16],
-    stack: &mut [u16],
-    top: usize,
-) -> Option<usize>
-    requires readable { Readable (S.Signature.arities signature.now) table.old.count bindings.now place (length stack.old - top) }
-    requires room { (0 < top) × (top ≤ length stack.old) }
-    requires records { AllByRecursion (λ k. k < table.old.count) (drop top stack.old) }
+    stack: &mut Stack,
+) -> Option<()>
+    requires readable { Readable (S.Signature.arities signature.now) table.old.count bindings.now place (length (records_on stack.old)) }
+    requires room { 0 < stack.old.top }
+    requires records { AllByRecursion (λ k. k < table.old.count) (records_on stack.old) }
     ensures capacity { capacity table.new ≡ capacity table.old }
     ensures records { KeepsRecords table.old table.new }
     ensures cases { MatchOption result
         (Full table.old table.new
         (place_tree (S.Signature.arities signature.now) (binding (trees table.old) bindings.now) place
-        (stack_trees (trees table.old) stack.old top)))
-        (λ new. Pushed table.old table.new stack.old stack.new top new (taken (S.Signature.arities signature.now) place)
+        (stack_trees (trees table.old) stack.old)))
+        (λ _. Pushed table.old table.new stack.old stack.new (taken (S.Signature.arities signature.now) place)
         (place_tree (S.Signature.arities signature.now) (binding (trees table.old) bindings.now) place
-        (stack_trees (trees table.old) stack.old top))) }
+        (stack_trees (trees table.old) stack.old))) }
 {
     match place {
         Place::Empty => unreachable(),
         Place::Symbol(symbol) => {
-            let Some(arity) = signature.arity(symbol) else {
-                return None;
-            };
-            push_symbol(table, symbol, arity as usize, stack, top)
+            let arity = signature.arity(symbol)?;
+            push_symbol(table, symbol, arity as usize, stack)
         }
-        Place::Variable(variable) => Some(replace_top(stack, top, 0, bindings[variable as usize])),
+        Place::Variable(variable) => {
+            stack.replace(0, bindings[variable as usize]);
+            Some(())
+        }
     }
 }
 
@@ -102,13 +88,12 @@ pub fn build<S: Signature>(
         (Built table.old table.new (spelled_tree (S.Signature.arities signature.now) (trees table.old) bindings.now places.now)) }
 {
     let old = table.count();
-    let mut top = stack.len();
-    for i in (0..places.len()).rev() {
-        let Some(new) = push_place(table, signature, places[i], bindings, stack, top) else {
+    let mut stack = Stack::new(stack);
+    for place in places.iter().rev() {
+        let Some(()) = push_place(table, signature, *place, bindings, &mut stack) else {
             table.truncate(old);
             return None;
         };
-        top = new;
     }
-    Some(stack[top])
+    Some(stack.first())
 }

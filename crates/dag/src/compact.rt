@@ -1,29 +1,27 @@
 // Compaction: keeping the records of the subterms of some roots, and giving up all others.
-ghost use Rattle.std.specs.Prelude.{◌≡◌, ℕ, ◌<◌, ◌≤◌, [], length, None, slice_index_or};
-ghost use Rattle.rewriting.specs.Subterms.{walks};
-ghost use Rattle.dag.specs.Roots.{ChildrenMarked, Compacted, renumber_root, root_trees, RootsInUse, Slid};
+ghost use Rattle.std.specs.Prelude.{◌≡◌, ℕ, ◌<◌, ◌≤◌, length, None, slice_index_or};
+ghost use Rattle.dag.specs.Roots.{ChildrenMarked, Compacted, renumber_root, RootsInUse, RootsWalked, Slid};
 ghost use Rattle.dag.specs.Tables.{capacity, trees};
-ghost use Rattle.dag.specs.Walks.{Clear, listed, Walked};
+ghost use Rattle.dag.specs.Walks.{Clear};
 
 use crate::marks::Marks;
 use crate::node::Node;
 use crate::table::Table;
-use crate::walk::visit;
+use crate::walk::Walk;
 
-// Marks the records of the roots' subterms, and lists them.
-fn mark_roots(table: &Table, roots: &[Option<u16>], marks: &mut [u8], order: &mut [u16]) -> usize
+// Marks the records of the roots' subterms.
+fn mark_roots(table: &Table, roots: &[Option<u16>], marks: &mut [u8], order: &mut [u16])
     requires roots { RootsInUse table.now.count roots.now }
-    requires walked { Walked (trees table.now) marks.old order.old 0 }
-    ensures walked { Walked (trees table.now) marks.new order.new result }
-    ensures listed { listed (trees table.now) order.new result ≡ walks (root_trees (trees table.now) roots.now) [] }
+    requires sizes { (capacity table.now ≤ length marks.old) × (capacity table.now ≤ length order.old) }
+    requires clear { Clear marks.old }
+    ensures { RootsWalked (trees table.now) roots.now marks.new order.new }
 {
-    let mut n = 0;
-    for i in 0..roots.len() {
-        if let Some(at) = roots[i] {
-            n = visit(table, at as usize, marks, order, n);
+    let mut walk = Walk::new(table, marks, order);
+    for root in roots {
+        if let Some(at) = root {
+            walk.visit(*at as usize);
         }
     }
-    n
 }
 
 // Slides the marked records down over the others, and notes their new numbers.
@@ -35,8 +33,8 @@ fn slide(table: &mut Table, marks: &[u8], numbers: &mut [u16])
 {
     let old = table.count();
     table.truncate(0);
-    for i in 0..old {
-        if marks[i] != 0 {
+    for (i, mark) in marks[..old].iter().enumerate() {
+        if *mark != 0 {
             let node = Node::from_shaped_row(table.row_at(i));
             numbers[i] = table.append(node.renumbered(numbers));
         }
@@ -49,9 +47,9 @@ fn renumber_roots(roots: &mut [Option<u16>], numbers: &[u16])
     ensures { (i : ℕ) → i < length roots.old
         → slice_index_or roots.new i None ≡ renumber_root numbers.now (slice_index_or roots.old i None) }
 {
-    for place in 0..roots.len() {
-        if let Some(at) = roots[place] {
-            roots[place] = Some(numbers[at as usize]);
+    for root in roots.iter_mut() {
+        if let Some(at) = *root {
+            *root = Some(numbers[at as usize]);
         }
     }
 }
@@ -72,7 +70,7 @@ pub fn compact(
     ensures compacted { Compacted (trees table.old) roots.old (trees table.new) roots.new }
 {
     let guard = Marks(marks);
-    let _count = mark_roots(table, roots, guard.0, order);
+    mark_roots(table, roots, guard.0, order);
     slide(table, guard.0, numbers);
     renumber_roots(roots, numbers);
 }

@@ -19,5 +19,6 @@ pub mod marks;
 pub mod node;
 pub mod row;
 pub mod signature;
+mod stack;
 pub mod table;
 pub mod walk;

@@ -5,9 +5,7 @@ ghost use Rattle.dag.specs.Walks.{Clear};
 pub fn wipe(marks: &mut [u8])
     ensures { Clear marks.new }
 {
-    for mark in marks.iter_mut() {
-        *mark = 0;
-    }
+    marks.fill(0);
 }
 
 // Marks in use. They are wiped when the guard ends, by whatever way the function that made it is left.

@@ -2,12 +2,9 @@
 
 // A node as the table keeps it: its symbol, how many children it has, and the numbers of their records. Any bytes make a
 // row; `node::Node` is one that is in order.
-#[derive(Clone, Copy)]
+#[derive(Clone, Copy, PartialEq, Eq)]
 pub struct Row {
     pub symbol: u8,
     pub arity: u8,
-    pub first: u16,
-    pub second: u16,
-    pub third: u16,
-    pub fourth: u16,
+    pub children: [u16; 4],
 }

@@ -3,8 +3,8 @@ pub mod interning;
 pub mod memory;
 pub mod reading;
 
-ghost use Rattle.std.specs.Prelude.{◌≡◌, ℕ, ◌<◌, ◌≤◌, get_or, vec_len, ◌≢◌, slice_index_or};
-ghost use Rattle.dag.specs.Rows.{blank, ChildrenBelow, UnusedZero};
+ghost use Rattle.std.specs.Prelude.{◌≤◌, vec_len};
+ghost use Rattle.dag.specs.Trees.{Valid};
 
 use crate::row::Row;
 
@@ -14,10 +14,6 @@ use crate::row::Row;
 pub struct Table {
     rows: Vec<Row>,
     count: usize,
-    ghost fits: { count ≤ vec_len rows },
     ghost small: { vec_len rows ≤ 4096 },
-    ghost few: { (i : ℕ) → i < count → (get_or rows.items i blank).arity ≤ 4 },
-    ghost unused: { (i : ℕ) → i < count → UnusedZero (slice_index_or rows.items i blank) },
-    ghost below: { (i : ℕ) → i < count → ChildrenBelow i (slice_index_or rows.items i blank) },
-    ghost unequal: { (i j : ℕ) → i < j → j < count → slice_index_or rows.items i blank ≢ slice_index_or rows.items j blank },
+    ghost valid: { Valid rows.items count },
 }

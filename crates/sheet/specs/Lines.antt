@@ -5,4 +5,4 @@ use Rattle.sheet.specs.declared.line.Line.{Line}
 use Rattle.sheet.specs.SheetText.{line_text}
 
 abbrev pub line_bytes : Line → List ℕ
-line_bytes l = line_text l.number (letters_of l.name) (take l.arity l.children)
+line_bytes l = line_text l.number (letters_of l.name) (take 4 l.children.now)

@@ -1,5 +1,5 @@
 // One line of a sheet.
-ghost use Rattle.std.specs.Prelude.{◌≡◌, ◌≤◌, min, ◌∷◌, ◌++◌, length, decimal};
+ghost use Rattle.std.specs.Prelude.{◌≡◌, ◌≤◌, ◌∷◌, ◌++◌, length, decimal};
 ghost use Rattle.card.specs.Bytes.{letters_of};
 ghost use Rattle.sheet.specs.Lines.{line_bytes};
 ghost use Rattle.sheet.specs.SheetText.{child_numbers};
@@ -8,13 +8,13 @@ ghost use Rattle.sheet.specs.Texts.{bytes_of};
 use crate::text::Text;
 use card::name::letters;
 
-// A subterm's number, its symbol's name as the symbol's record holds it, and its children's numbers, the first `arity` of four.
+// A subterm's number, its symbol's name as the symbol's record holds it, and its children's numbers, of which a line shows four
+// at most.
 #[derive(Clone, Copy)]
-pub struct Line {
+pub struct Line<'a> {
     pub number: u16,
     pub name: [u8; 12],
-    pub arity: u8,
-    pub children: [u16; 4],
+    pub children: &'a [u16],
 }
 
 // A line up to its symbol's name.
@@ -42,20 +42,14 @@ fn push_children(text: &mut Text, children: &[u16])
     text.push(b'\n');
 }
 
-fn at_most_four(arity: u8) -> usize
-    ensures { result ≡ min arity 4 }
-{
-    if arity < 4 { arity as usize } else { 4 }
-}
-
-impl Line {
+impl Line<'_> {
     // Its bytes.
     pub fn text(&self) -> Text
         ensures { bytes_of result ≡ line_bytes self.now }
     {
         let mut text = head(self.number, &self.name);
-        let count = at_most_four(self.arity);
-        push_children(&mut text, &self.children[0..count]);
+        let count = self.children.len().min(4);
+        push_children(&mut text, &self.children[..count]);
         text
     }
 }

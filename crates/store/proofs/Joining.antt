@@ -71,7 +71,7 @@ module _ (before after : Table) (s : Tree) where
 
   pub interned_fits : (k : ℕ) → capacity after ≡ capacity before → Interned before after s k → length (walk s (trees before)) ≤ capacity before
   interned_fits k same i =
-      let few = after.fits in
+      let few = after.valid.fits in
       let n = one_tree_each after in
       let there = subst (λ x. Memᴰ x (trees after)) i.holds.1 (record_mem after k i.holds.0) in
       let h = fewer_members (walk s (trees before)) (trees after) (grown_distinct (walk_grown s (trees before) (grown_trees before)))

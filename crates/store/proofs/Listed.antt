@@ -3,10 +3,11 @@ use Rattle.std.proofs.Common.{◌≡◌, ℕ, ◌<◌, ◌≤◌, List, [], ◌�
 use mathlib.Core.List.Memᴰ
 use mathlib.Core.List.{Memᴰ}
 use Rattle.std.specs.List.{AllByRecursion}
+use Rattle.std.proofs.ByRecursion.{All-get_or}
 use Rattle.std.proofs.lemmas.List.{length-map}
 use Rattle.rewriting.specs.Terms.{Tree, children, to_list}
 use Rattle.rewriting.specs.Subterms.{Distinct, row, subterms, walks}
-use Rattle.rewriting.proofs.Members.{mem_place, place_mem}
+use Rattle.rewriting.proofs.Members.{mem_member, mem_place, place_mem}
 use Rattle.rewriting.proofs.Walking.{grown_children_first, grown_distinct, subterms_grown, subterms_last}
 use Rattle.sheet.specs.SheetText.{before_last, lines_from, sheet_text, trailer_text}
 use Rattle.dag.specs.declared.table.Table.{Table}
@@ -42,9 +43,9 @@ module _ (table : Table) (t : Tree) (order : List ℕ) (listed : trees_at table 
   pub numbered_ready : (numbers : List ℕ) → AllByRecursion (λ k. k < table.count) order → length order ≤ 4096 → table.count ≤ length numbers → NumberedTo (length order) order numbers → Ready table order numbers
   numbered_ready numbers inside few long numbered =
       record {
-        inside = inside;
+        inside = λ i h. All-get_or (λ k. k < table.count) order i 0 h inside;
         few = few;
-        children_there = subst ChildrenThere (sym listed) (subterms_there t);
+        children_there = λ s c m k. mem_member c (subst ChildrenThere (sym listed) (subterms_there t) s c m k);
         long = long;
         numbered = all_numbered (trees table) order apart numbers (distinct_trees table) (subst (λ n. AllByRecursion (λ k. k < n) order) (sym (one_tree_each table)) inside) numbered;
       }

@@ -1,13 +1,16 @@
 -- The symbol that bytes name. Assumes nothing.
-use Rattle.std.proofs.Common.{◌≡◌, ℕ, ◌+◌, ◌<◌, true, false, List, length, get_or, drop, Some, sym, ap, ◌∙◌, add-one}
-use Rattle.std.proofs.lemmas.List.{at_drop_more}
+use Rattle.std.proofs.Common.{◌≡◌, ℕ, suc, ◌+◌, Bool, true, false, cond, List, [], ◌∷◌, Some, Option, sym, refl, ap, ◌∙◌, add-one}
+use Rattle.std.specs.List.{position_from}
 use Rattle.card.specs.Bytes.{letters_of, same_bytes}
 use Rattle.card.specs.declared.record.SymbolRecord.{SymbolRecord}
 use Rattle.store.specs.Results.{named_from}
 
-module _ (bytes : List ℕ) (ss : List SymbolRecord) (i : ℕ) (d : SymbolRecord) (more : i < length ss) where
-  pub named_here : same_bytes (letters_of (get_or ss i d).name) bytes ≡ true → named_from bytes i (drop i ss) ≡ Some i
-  named_here e = at_drop_more (named_from bytes i) ss i d more ∙ rw (e, named_from)
-
-  pub named_further : same_bytes (letters_of (get_or ss i d).name) bytes ≡ false → named_from bytes i (drop i ss) ≡ named_from bytes (i + 1) (drop (i + 1) ss)
-  named_further e = at_drop_more (named_from bytes i) ss i d more ∙ rw (e, named_from) (ap (λ k. named_from bytes k (drop (i + 1) ss)) (sym (add-one i)))
+-- the first symbol with a name is the first that passes the test for it
+pub named_is : (bytes : List ℕ) (i : ℕ) (ss : List SymbolRecord) → named_from bytes i ss ≡ position_from (λ s. same_bytes (letters_of s.name) bytes) i ss
+named_is bytes i [] = refl
+named_is bytes i (s ∷ ss) = go (same_bytes (letters_of s.name) bytes) (named_is bytes (suc i) ss ∙ ap (λ n. position_from (λ s. same_bytes (letters_of s.name) bytes) n ss) (sym (add-one i)))
+  where
+    go : (b : Bool) → named_from bytes (suc i) ss ≡ position_from (λ s. same_bytes (letters_of s.name) bytes) (i + 1) ss
+        → elim b as (λ q. Option ℕ) [ true ↦ Some i | false ↦ named_from bytes (suc i) ss ] ≡ cond b (Some i) (position_from (λ s. same_bytes (letters_of s.name) bytes) (i + 1) ss)
+    go true e = refl
+    go false e = e

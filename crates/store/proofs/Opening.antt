@@ -1,6 +1,7 @@
 -- A store that was just opened. Assumes nothing.
-use Rattle.std.proofs.Common.{◌≡◌, ℕ, zero, suc, ◌<◌, ◌≤◌, List, length, get_or, replicate, None, sym, refl, ap, ◌∙◌, subst, arith}
+use Rattle.std.proofs.Common.{◌≡◌, ℕ, zero, suc, ◌<◌, ◌≤◌, List, length, get_or, replicate, None, Ok, Err, Result, MatchResult, sym, refl, ap, ◌∙◌, subst, arith}
 use Rattle.std.specs.List.{AllByRecursion}
+use Rattle.std.specs.Result.{IsErrAnd}
 use Rattle.std.proofs.ByRecursion.{All-get_or}
 use Rattle.rewriting.specs.Cards.{Signature}
 use Rattle.rewriting.specs.Counting.{distinct_count}
@@ -29,3 +30,9 @@ none_on Σ zero i l = absurd (omega arith)
 
 pub fresh_on : (Σ : Signature) (t : Tins) (n : ℕ) → Fresh t n → AllOn Σ (tin_trees t)
 fresh_on Σ t n fresh = subst (AllOn Σ) (sym (fresh_tins t n fresh)) (none_on Σ 16)
+
+-- a result whose error alone was changed
+pub ok_kept : {T E F : Type 0} (r : Result T E) (m : Result T F) (x : T) (P : T → Type 0) (Q : E → Type 0) (D : E → F → Type 0)
+    → MatchResult r (λ y. m ≡ Ok y) (λ e. IsErrAnd m (D e)) → m ≡ Ok x → MatchResult r P Q → P x
+ok_kept (Ok y) m x P Q D h e p = let same : y ≡ x = cc in subst P same p
+ok_kept (Err f) m x P Q D h e p = absurd (rw e at h)

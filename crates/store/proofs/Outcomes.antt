@@ -1,5 +1,6 @@
 -- The results of calls by their cases. Assumes nothing.
-use Rattle.std.proofs.Common.{◌≡◌, ℕ, ◌<◌, ◌≤◌, true, false, List, length, get_or, take, set, Some, None, Ok, Err, Result, sym, ap, ◌∙◌}
+use Rattle.std.proofs.Common.{◌≡◌, ℕ, ◌<◌, ◌≤◌, true, false, List, length, get_or, take, set, Some, None, Ok, Err, Option, Result, sym, ap, ◌∙◌}
+use Rattle.std.specs.Option.{ok_or}
 use Rattle.std.proofs.lemmas.List.{take_all}
 use Rattle.std.proofs.lemmas.Bool.{lt-ltb, le-ltb}
 use Rattle.rewriting.specs.Terms.{Tree}
@@ -15,6 +16,10 @@ tin_there tin h = lt-ltb tin 16 h
 
 pub no_tin : (tin : ℕ) → 16 ≤ tin → is_tin tin ≡ false
 no_tin tin h = le-ltb tin 16 h
+
+-- why a call is refused that asks for what is not there
+pub refused : {T : Type 0} (o : Option T) (f g : Refusal) → o ≡ None → Err f ≡ ok_or o g → f ≡ g
+refused o f g none e = let h = rw none at e in cc
 
 pub clear_done : (tins after : Held) (tin : ℕ) → tin < 16 → after ≡ set tins tin None → clear_result tins tin ≡ Ok after
 clear_done tins after tin h e = let t = tin_there tin h in rw (t, clear_result) (ap Ok (sym e))

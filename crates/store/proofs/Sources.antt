@@ -1,7 +1,7 @@
 -- The sources of a join one by one. Assumes nothing.
-use Rattle.std.proofs.Common.{◌≡◌, ℕ, ◌+◌, ◌<◌, ◌≤◌, true, false, ◌&&◌, List, [], ◌∷◌, ◌++◌, length, get_or, take, drop, set, is_some, Some, None, Option, unwrap_or, sym, ap, ◌∙◌, subst, ap₂, arith, MatchOption}
-use Rattle.std.specs.List.{AllByRecursion}
-use Rattle.std.proofs.lemmas.List.{at_drop_more, get_or-map, length-map, take_more, take_more_set}
+use Rattle.std.proofs.Common.{◌≡◌, ℕ, ◌+◌, ◌<◌, true, ◌&&◌, List, [], ◌∷◌, ◌++◌, length, get_or, take, set, is_some, Some, None, Option, unwrap_or, sym, refl, ap, ◌∙◌, subst, ap₂, arith, MatchOption}
+use Rattle.std.specs.List.{AllByRecursion, list_all}
+use Rattle.std.proofs.lemmas.List.{get_or-map, length-map, take_more, take_more_set}
 use Rattle.std.proofs.lemmas.Bool.{and_parts, ltb-true, true≢false}
 use Rattle.dag.specs.declared.node.Node.{Node}
 use Rattle.dag.specs.Roots.{in_use, RootsInUse}
@@ -12,27 +12,14 @@ use Rattle.dag.proofs.Shapes.{children_each}
 use Rattle.store.specs.declared.tins.Tins.{Tins}
 use Rattle.store.specs.Results.{all_tins, is_tin}
 use Rattle.store.specs.Sources.{all_filled, source_records}
-use Rattle.store.proofs.Outcomes.{no_tin, tin_there}
 
-module _ (sources : List ℕ) (i : ℕ) (more : i < length sources) where
-  pub no_tin_here : 16 ≤ get_or sources i 0 → all_tins (drop i sources) ≡ false
-  no_tin_here h = at_drop_more all_tins sources i 0 more ∙ ap (λ b. b && all_tins (drop (i + 1) sources)) (no_tin (get_or sources i 0) h)
+pub all_tins_is : (sources : List ℕ) → all_tins sources ≡ list_all is_tin sources
+all_tins_is [] = refl
+all_tins_is (tin ∷ sources) = ap (λ b. is_tin tin && b) (all_tins_is sources)
 
-  pub tin_here : get_or sources i 0 < 16 → all_tins (drop i sources) ≡ all_tins (drop (i + 1) sources)
-  tin_here h = at_drop_more all_tins sources i 0 more ∙ ap (λ b. b && all_tins (drop (i + 1) sources)) (tin_there (get_or sources i 0) h)
-
-  -- the next source is a tin, and so are the others
-  pub tins_front : all_tins (drop i sources) ≡ true → (get_or sources i 0 < 16) × (all_tins (drop (i + 1) sources) ≡ true)
-  tins_front e =
-      let p = and_parts (is_tin (get_or sources i 0)) (all_tins (drop (i + 1) sources)) (sym (at_drop_more all_tins sources i 0 more) ∙ e) in
-      (ltb-true (get_or sources i 0) 16 p.0, p.1)
-
-  module _ (roots : List (Option ℕ)) where
-    pub empty_here : is_some (get_or roots (get_or sources i 0) None) ≡ false → all_filled roots (drop i sources) ≡ false
-    empty_here e = at_drop_more (all_filled roots) sources i 0 more ∙ ap (λ b. b && all_filled roots (drop (i + 1) sources)) e
-
-    pub filled_here : is_some (get_or roots (get_or sources i 0) None) ≡ true → all_filled roots (drop i sources) ≡ all_filled roots (drop (i + 1) sources)
-    filled_here e = at_drop_more (all_filled roots) sources i 0 more ∙ ap (λ b. b && all_filled roots (drop (i + 1) sources)) e
+pub all_filled_is : (roots : List (Option ℕ)) (sources : List ℕ) → all_filled roots sources ≡ list_all (λ tin. is_some (get_or roots tin None)) sources
+all_filled_is roots [] = refl
+all_filled_is roots (tin ∷ sources) = ap (λ b. is_some (get_or roots tin None) && b) (all_filled_is roots sources)
 
 -- one record more
 pub record_more : (roots : List (Option ℕ)) (sources records : List ℕ) (i v : ℕ) → i < length sources → i < length records → v ≡ unwrap_or (get_or roots (get_or sources i 0) None) 0
@@ -63,7 +50,7 @@ pub node_over_told : (t : Tins) (symbol : ℕ) (sources slice : List ℕ) (r : O
     → MatchOption r (4 < length sources) (λ n. OverRecords t.table n × (node_tree t.table n ≡ tree_over (trees t.table) symbol (source_records t.roots sources)))
 node_over_told t symbol sources slice None e tins filled h = omega (arith, ap length e, length-map sources (λ tin. unwrap_or (get_or t.roots tin None) 0))
 node_over_told t symbol sources slice (Some n) e tins filled h = (
-  children_each t.table.count n.row n.few
+  children_each t.table.count n.row (omega (arith, n.few, n.four))
       (subst (AllByRecursion (λ k. k < t.table.count)) (sym (h.1 ∙ e)) (source_records_used t.roots t.table.count sources t.sixteen t.used tins filled)),
   ap₂ (tree_over (trees t.table)) h.0 (h.1 ∙ e),
 )

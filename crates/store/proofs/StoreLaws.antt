@@ -66,7 +66,7 @@ module _ (s : Store) (tin : ℕ) (t : Tree) (h : is_tin tin ≡ true) (e : get_o
   -- its subterms have records, of which there are 4,096 at most
   tree_small : length (subterms t) ≤ 4096
   tree_small =
-      let few = s.tins.table.fits in
+      let few = s.tins.table.valid.fits in
       let small = s.tins.table.small in
       let n = one_tree_each s.tins.table in
       let k = fewer_members (subterms t) (trees s.tins.table) (grown_distinct (subterms_grown t))

@@ -7,3 +7,4 @@ pub mod Stores
 pub mod Opens
 pub mod StoreLaws
 pub mod Printing
+pub mod Listings

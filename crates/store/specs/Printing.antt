@@ -1,14 +1,12 @@
 -- The sheet of a tree, from the records of its subterms. Assumes nothing.
-use Rattle.std.specs.Prelude.{◌≡◌, ℕ, suc, ◌+◌, ◌<◌, ◌≤◌, List, ◌++◌, map, length, take, slice_index}
+use Rattle.std.specs.Prelude.{◌≡◌, ℕ, suc, ◌+◌, ◌<◌, ◌≤◌, true, List, ◌++◌, map, length, take, slice_index}
 use mathlib.Core.List.{Memᴰ}
-use Rattle.std.specs.List.{AllByRecursion}
-use Rattle.rewriting.specs.Terms.{Tree}
-use Rattle.rewriting.specs.Subterms.{place_of, Row, row}
+use Rattle.rewriting.specs.Terms.{Tree, children, to_list}
+use Rattle.rewriting.specs.Subterms.{member, place_of, Row, row}
 use Rattle.sheet.specs.SheetText.{before_last, line_text, lines_from, trailer_text}
 use Rattle.dag.specs.declared.table.Table.{Table}
 use Rattle.dag.specs.Tables.{trees}
 use Rattle.dag.specs.Trees.{tree_at}
-use Rattle.dag.specs.Walks.{ChildrenThere}
 
 -- no record is listed twice
 abbrev pub ListedOnce : List ℕ → Type 0
@@ -32,9 +30,9 @@ Numbered ts xs numbers = (k : ℕ) → k < length ts → Memᴰ (tree_at ts k) x
 
 -- listed records of a table can be printed: with each tree its children are listed, and all are numbered
 pub record Ready (table : Table) (order numbers : List ℕ) : Type 0 where
-  pub inside : AllByRecursion (λ k. k < table.count) order
+  pub inside : (i : ℕ) → i < length order → slice_index order i < table.count
   pub few : length order ≤ 4096
-  pub children_there : ChildrenThere (trees_at table order)
+  pub children_there : (s c : Tree) → Memᴰ s (trees_at table order) → Memᴰ c (to_list (children s)) → member c (trees_at table order) ≡ true
   pub long : table.count ≤ length numbers
   pub numbered : Numbered (trees table) (trees_at table order) numbers
 

@@ -12,9 +12,6 @@ impl Signature for CardSymbols<'_> {
     ghost arities = { λ s f. arities s.0.now f };
 
     fn arity(&self, symbol: u8) -> Option<u8> {
-        if (symbol as usize) < self.0.len() {
-            return Some(self.0[symbol as usize].arity);
-        }
-        None
+        self.0.get(symbol as usize).map(|record| record.arity)
     }
 }

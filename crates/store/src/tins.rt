@@ -1,5 +1,6 @@
 // Sixteen tins over one node table.
 pub mod holding;
+mod listing;
 pub mod memory;
 pub mod printing;
 pub mod sources;

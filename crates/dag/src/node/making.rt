@@ -1,44 +1,34 @@
 // Nodes from rows and from symbols, and rows from nodes.
-ghost use Rattle.std.specs.Prelude.{◌≡◌, ◌<◌, length, MatchOption, slice_index};
+ghost use Rattle.std.specs.Prelude.{◌≡◌, ◌<◌, length, MatchOption, MatchResult};
 ghost use Rattle.dag.specs.Rows.{children_of, Shaped};
 
 use crate::node::Node;
 use crate::row::Row;
 
-// What stands at a place of a list of children, or 0 behind its end.
-fn child_or_zero(children: &[u16], place: usize) -> u16
-    ensures { result ≡ slice_index children.now place }
-{
-    if place < children.len() {
-        children[place]
-    } else {
-        0
+impl TryFrom<Row> for Node {
+    type Error = Row;
+
+    ghost try_from_gives = { λ row r. MatchResult r (λ node. node.row ≡ row) (λ back. (back ≡ row) × (Shaped row → ⊥)) };
+
+    // The node of a row that is in order; any other row comes back.
+    fn try_from(row: Row) -> Result<Node, Row> {
+        let arity = row.arity as usize;
+        if arity > 4 || row.children[arity..].iter().any(|child| *child != 0) {
+            return Err(row);
+        }
+        Ok(Node { row })
+    }
+}
+
+impl From<Node> for Row {
+    ghost from_gives = { λ node row. row ≡ node.row };
+
+    fn from(node: Node) -> Row {
+        node.row
     }
 }
 
 impl Node {
-    // The node of a row that is in order.
-    pub fn from_row(row: Row) -> Option<Node>
-        ensures { MatchOption result (Shaped row → ⊥) (λ node. node.row ≡ row) }
-    {
-        if row.arity > 4 {
-            return None;
-        }
-        if row.arity <= 3 && row.fourth != 0 {
-            return None;
-        }
-        if row.arity <= 2 && row.third != 0 {
-            return None;
-        }
-        if row.arity <= 1 && row.second != 0 {
-            return None;
-        }
-        if row.arity == 0 && row.first != 0 {
-            return None;
-        }
-        Some(Node { row })
-    }
-
     // The node of a row that is known to be in order.
     pub(crate) fn from_shaped_row(row: Row) -> Node
         requires { Shaped row }
@@ -55,20 +45,15 @@ impl Node {
         if children.len() > 4 {
             return None;
         }
-        let row = Row {
-            symbol,
-            arity: children.len() as u8,
-            first: child_or_zero(children, 0),
-            second: child_or_zero(children, 1),
-            third: child_or_zero(children, 2),
-            fourth: child_or_zero(children, 3),
-        };
-        Some(Node { row })
-    }
-
-    pub fn to_row(self) -> Row
-        ensures { result ≡ self.row }
-    {
-        self.row
+        let arity = children.len() as u8;
+        let mut places = [0; 4];
+        places[..children.len()].copy_from_slice(children);
+        Some(Node {
+            row: Row {
+                symbol,
+                arity,
+                children: places,
+            },
+        })
     }
 }

@@ -19,16 +19,18 @@ impl Node {
         self.row.arity as usize
     }
 
+    // The records of the children, from left to right.
+    pub fn children(&self) -> &[u16]
+        ensures { result.now ≡ children_of self.now.row }
+    {
+        &self.row.children[..self.arity()]
+    }
+
     // The record of a child, counted from 0.
     pub fn child(self, place: usize) -> u16
         requires { place < length (children_of self.row) }
         ensures { result ≡ slice_index (children_of self.row) place }
     {
-        match place {
-            0 => self.row.first,
-            1 => self.row.second,
-            2 => self.row.third,
-            _ => self.row.fourth,
-        }
+        self.row.children[place]
     }
 }

@@ -4,6 +4,7 @@ ghost use Rattle.std.specs.Prelude.{◌≡◌, MatchOption};
 ghost use Rattle.dag.specs.Tables.{capacity, Full, Holds, Interned, KeepsRecords, node_tree, OverRecords, trees};
 
 use crate::node::Node;
+use crate::row::Row;
 use crate::table::Table;
 
 impl Table {
@@ -14,12 +15,11 @@ impl Table {
             (Memᴰ (node_tree self.now node) (trees self.now) → ⊥)
             (λ k. Holds self.now k (node_tree self.now node)) }
     {
-        for i in 0..self.count {
-            if self.node(i) == node {
-                return Some(i as u16);
-            }
-        }
-        None
+        let row = Row::from(node);
+        let at = self.rows[..self.count]
+            .iter()
+            .position(|other| *other == row)?;
+        Some(at as u16)
     }
 
     // The record of a node's tree, which is added if it is not there. With no room for it nothing changes.

@@ -38,8 +38,8 @@ impl Table {
         ensures trees { trees self.new ≡ trees self.old ++ (node_tree self.old node ∷ []) }
     {
         let at = self.count;
-        self.rows[at] = node.to_row();
-        self.count = at + 1;
+        self.rows[at] = node.into();
+        self.count += 1;
         at as u16
     }
 
@@ -48,8 +48,6 @@ impl Table {
         ensures rows { self.new.rows ≡ self.old.rows }
         ensures trees { trees self.new ≡ take count (trees self.old) }
     {
-        if count < self.count {
-            self.count = count;
-        }
+        self.count = self.count.min(count);
     }
 }

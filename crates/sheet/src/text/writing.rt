@@ -3,6 +3,7 @@ ghost use Rattle.std.specs.Prelude.{◌≡◌, ◌+◌, ◌<◌, ◌≤◌, [], 
 ghost use Rattle.sheet.specs.Texts.{bytes_of, PutAtFront};
 
 use crate::text::Text;
+use itoa::Buffer;
 
 impl Text {
     pub(crate) fn new() -> Text
@@ -18,7 +19,7 @@ impl Text {
     pub fn as_bytes(&self) -> &[u8]
         ensures { result.now ≡ bytes_of self.now }
     {
-        &self.bytes[0..self.count]
+        &self.bytes[..self.count]
     }
 
     pub(crate) fn push(&mut self, b: u8)
@@ -33,21 +34,16 @@ impl Text {
         requires { length (bytes_of self.old) + length bytes.now ≤ 48 }
         ensures { bytes_of self.new ≡ bytes_of self.old ++ bytes.now }
     {
-        for b in bytes {
-            self.push(*b);
-        }
+        let end = self.count + bytes.len();
+        self.bytes[self.count..end].copy_from_slice(bytes);
+        self.count = end;
     }
 
     pub(crate) fn push_number(&mut self, n: usize)
         requires { length (bytes_of self.old) + length (decimal n) ≤ 48 }
         ensures { bytes_of self.new ≡ bytes_of self.old ++ decimal n }
     {
-        if n < 10 {
-            self.push(b'0' + n as u8);
-            return;
-        }
-        self.push_number(n / 10);
-        self.push(b'0' + (n % 10) as u8);
+        self.push_all(Buffer::new().format(n).as_bytes());
     }
 
     // Puts the text at the front of a buffer and answers its length, or leaves a buffer that is too short as it is.
@@ -56,12 +52,11 @@ impl Text {
             ((length out.old < length (bytes_of self.now)) × (out.new ≡ out.old))
             (λ n. PutAtFront (bytes_of self.now) n out.old out.new) }
     {
-        if out.len() < self.count {
+        let text = self.as_bytes();
+        if out.len() < text.len() {
             return None;
         }
-        for i in 0..self.count {
-            out[i] = self.bytes[i];
-        }
-        Some(self.count)
+        out[..text.len()].copy_from_slice(text);
+        Some(text.len())
     }
 }

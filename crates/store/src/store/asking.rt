@@ -16,13 +16,9 @@ impl Store<'_> {
         if left >= 16 || right >= 16 {
             return Err(Refusal::NoSuchTin);
         }
-        match self.tins.root(left) {
-            Some(x) => match self.tins.root(right) {
-                Some(y) => Ok(x == y),
-                None => Err(Refusal::EmptyTin),
-            },
-            None => Err(Refusal::EmptyTin),
-        }
+        let left = self.tins.root(left).ok_or(Refusal::EmptyTin)?;
+        let right = self.tins.root(right).ok_or(Refusal::EmptyTin)?;
+        Ok(left == right)
     }
 
     // Writes the sheet of a tin's tree at the front of a buffer, and answers its length.
@@ -34,12 +30,8 @@ impl Store<'_> {
         if tin >= 16 {
             return Err(Refusal::NoSuchTin);
         }
-        match self.tins.root(tin) {
-            Some(at) => match self.tins.write_sheet(at, self.symbols, out) {
-                Some(n) => Ok(n),
-                None => Err(Refusal::BufferTooShort),
-            },
-            None => Err(Refusal::EmptyTin),
-        }
+        let at = self.tins.root(tin).ok_or(Refusal::EmptyTin)?;
+        let written = self.tins.write_sheet(at, self.symbols, out);
+        written.ok_or(Refusal::BufferTooShort)
     }
 }

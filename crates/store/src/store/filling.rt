@@ -33,13 +33,9 @@ impl Store<'_> {
         if target >= 16 || source >= 16 {
             return Err(Refusal::NoSuchTin);
         }
-        match self.tins.root(source) {
-            Some(at) => {
-                self.tins.set(target, Some(at));
-                Ok(())
-            }
-            None => Err(Refusal::EmptyTin),
-        }
+        let at = self.tins.root(source).ok_or(Refusal::EmptyTin)?;
+        self.tins.set(target, Some(at));
+        Ok(())
     }
 
     // Puts the tree of a recipe into a tin.
@@ -54,12 +50,10 @@ impl Store<'_> {
             return Err(Refusal::NoSuchTin);
         }
         let recipe = read_owned_recipe(text, self.symbols)?;
-        match self.tins.build(&CardSymbols(self.symbols), recipe.places()) {
-            Some(at) => {
-                self.tins.set(tin, Some(at));
-                Ok(())
-            }
-            None => Err(Refusal::NoRoom),
-        }
+        let symbols = CardSymbols(self.symbols);
+        let built = self.tins.build(&symbols, recipe.places());
+        let at = built.ok_or(Refusal::NoRoom)?;
+        self.tins.set(tin, Some(at));
+        Ok(())
     }
 }

@@ -23,21 +23,14 @@ impl Store<'_> {
         if !self.tins.all_filled(sources) {
             return Err(Refusal::EmptyTin);
         }
-        let Some(symbol) = find_symbol(self.symbols, name) else {
-            return Err(Refusal::UnknownName);
-        };
+        let symbol = find_symbol(self.symbols, name).ok_or(Refusal::UnknownName)?;
         if self.symbols[symbol].arity as usize != sources.len() {
             return Err(Refusal::WrongChildren);
         }
-        let Some(node) = self.tins.node_over(symbol as u8, sources) else {
-            return Err(Refusal::WrongChildren);
-        };
-        match self.tins.intern(node) {
-            Some(at) => {
-                self.tins.set(target, Some(at));
-                Ok(())
-            }
-            None => Err(Refusal::NoRoom),
-        }
+        let node = self.tins.node_over(symbol as u8, sources);
+        let node = node.ok_or(Refusal::WrongChildren)?;
+        let at = self.tins.intern(node).ok_or(Refusal::NoRoom)?;
+        self.tins.set(target, Some(at));
+        Ok(())
     }
 }

@@ -41,14 +41,12 @@ impl<'a> Store<'a> {
             return Err((Refusal::BrokenTable, memory));
         }
         let (symbol_count, rule_count) = (card.symbols, card.rules);
-        match Tins::new(memory) {
-            Ok(tins) => Ok(Store {
-                symbols: &symbols[0..symbol_count],
-                rules: &rules[0..rule_count],
-                tins,
-            }),
-            Err(memory) => Err((Refusal::BrokenTable, memory)),
-        }
+        let tins = Tins::new(memory).map_err(|memory| (Refusal::BrokenTable, memory))?;
+        Ok(Store {
+            symbols: &symbols[..symbol_count],
+            rules: &rules[..rule_count],
+            tins,
+        })
     }
 
     // Gives the memory back, with every mark 0.

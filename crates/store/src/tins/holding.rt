@@ -14,12 +14,11 @@ use dag::node::Node;
 use dag::signature::Signature;
 
 impl Tins {
-    // The record of a tin's tree.
+    // The record of a tin's tree. What is no tin holds none.
     pub(crate) fn root(&self, tin: usize) -> Option<u16>
-        requires { tin < 16 }
         ensures { result ≡ slice_index_or self.now.roots tin None }
     {
-        self.roots[tin]
+        self.roots.get(tin).copied().flatten()
     }
 
     // Puts a record's tree into a tin, or empties it, and gives up the records that no tin needs any more.

@@ -12,32 +12,20 @@ use dag::node::Node;
 pub fn all_tins(sources: &[usize]) -> bool
     ensures { result ≡ all_tins sources.now }
 {
-    for source in sources {
-        if *source >= 16 {
-            return false;
-        }
-    }
-    true
+    sources.iter().all(|source| *source < 16)
 }
 
 impl Tins {
     // Whether all of these tins hold a tree.
     pub(crate) fn all_filled(&self, sources: &[usize]) -> bool
-        requires { all_tins sources.now ≡ true }
         ensures { result ≡ all_filled self.now.roots sources.now }
     {
-        for source in sources {
-            if !self.root(*source).is_some() {
-                return false;
-            }
-        }
-        true
+        sources.iter().all(|source| self.root(*source).is_some())
     }
 
     // The records of these tins' trees.
     fn source_records(&self, sources: &[usize]) -> [u16; 4]
-        requires tins { all_tins sources.now ≡ true }
-        requires few { length sources.now ≤ 4 }
+        requires { length sources.now ≤ 4 }
         ensures { take (length sources.now) result ≡ source_records self.now.roots sources.now }
     {
         let mut records = [0; 4];
@@ -55,11 +43,10 @@ impl Tins {
             (λ n. OverRecords self.now.table n
             × (node_tree self.now.table n ≡ tree_over (trees self.now.table) symbol (source_records self.now.roots sources.now))) }
     {
-        let n = sources.len();
-        if n > 4 {
+        if sources.len() > 4 {
             return None;
         }
         let records = self.source_records(sources);
-        Node::new(symbol, &records[0..n])
+        Node::new(symbol, &records[..sources.len()])
     }
 }

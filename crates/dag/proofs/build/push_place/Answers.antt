@@ -8,6 +8,6 @@ returns-in-Variable g c =
       capacity = refl;
       records = refl;
       cases =
-          pushed_variable (g.S.Signature.arities c.args.signature.now) c.args.table.now c.args.bindings.now c.args.stack.now c.replace_top.new.stack c.args.top
-          c.replace_top.result c.args.place c.in-Variable.variable _ c.in-Variable.is c.requires.readable c.requires.records c.replace_top.ensures.top c.replace_top.ensures.stack;
+          pushed_variable (g.S.Signature.arities c.args.signature.now) c.args.table.now c.args.bindings.now c.args.stack.now c.replace.new.self
+          c.args.place c.in-Variable.variable _ c.in-Variable.is c.requires.readable c.requires.records c.replace.ensures.room c.replace.ensures.records;
     }

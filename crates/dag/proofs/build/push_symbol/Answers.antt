@@ -1,43 +1,47 @@
-use Rattle.std.proofs.Common.{◌+◌, ◌-◌, ◌<◌, drop, sym, subst}
+use Rattle.std.proofs.Common.{◌≡◌, ◌<◌, take, sym, ◌∙◌, subst, arith}
 use Rattle.std.specs.List.{AllByRecursion}
 use Rattle.std.proofs.ByRecursion.{All-take}
-use Rattle.dag.specs.Tables.{Full, Interned}
+use Rattle.rewriting.specs.Terms.{node}
+use Rattle.dag.specs.Stacks.{records_on, stack_trees}
+use Rattle.dag.specs.Tables.{Full, Interned, node_tree, trees}
+use Rattle.dag.specs.Trees.{from_list}
 use Rattle.dag.proofs.Shapes.{children_each}
 use Rattle.dag.proofs.Stacking.{over_top, pushed}
 use Rattle.dag.proofs.build.push_symbol.Goals as goal
+use Rattle.dag.proofs.build.push_symbol.Goals.{In_ok-node}
 
 pub intern-requires : goal.intern-requires
 intern-requires c =
     let n = c.in_ok-node.node in
-    let ks = drop c.args.top c.args.stack.now in
+    let ks = records_on c.args.stack.now in
     let count = c.args.table.now.count in
-    children_each count n.row n.few
-    (subst (AllByRecursion (λ k. k < count)) (sym c.in_ok-node.ensures.1) (All-take (λ k. k < count) ((c.args.top + c.args.arity) - c.args.top) ks c.requires.records))
+    children_each count n.row (omega (arith, n.few, n.four))
+    (subst (AllByRecursion (λ k. k < count)) (sym (c.in_ok-node.ensures.1 ∙ c.topmost.ensures)) (All-take (λ k. k < count) c.args.arity ks c.requires.records))
 
-pub returns-in_default : goal.returns-in_default
-returns-in_default c =
-    let before = c.args.table.now in
-    let h = c.in_default.ensures in
+-- the node's tree is the symbol over the topmost trees
+over : (c : In_ok-node) → node_tree c.args.table.now c.in_ok-node.node ≡ node c.args.symbol (from_list (take c.args.arity (stack_trees (trees c.args.table.now) c.args.stack.now)))
+over c =
     let n = c.in_ok-node.ensures in
+    over_top c.args.table.now (records_on c.args.stack.now) c.in_ok-node.node c.args.symbol c.args.arity n.0 (n.1 ∙ c.topmost.ensures)
+
+pub returns-in_err-record : goal.returns-in_err-record
+returns-in_err-record c =
+    let h = c.in_err-record.ensures in
     record {
       capacity = h.capacity;
       records = h.records;
-      cases =
-          subst (Full before c.intern.new.self)
-          (over_top before (drop c.args.top c.args.stack.now) c.in_ok-node.node c.args.symbol c.args.top c.args.arity n.0 n.1) h.cases;
+      cases = rw c.from_residual-in_err-record.ensures (subst (Full c.args.table.now c.intern.new.self) (over (goal.at.returns-in_err-record c).In_ok-node) h.cases);
     }
 
 pub returns : goal.returns
 returns c =
     let before = c.args.table.now in
     let after = c.intern.new.self in
-    let h = c.in-Some.ensures in
-    let n = c.in_ok-node.ensures in
-    let e = over_top before (drop c.args.top c.args.stack.now) c.in_ok-node.node c.args.symbol c.args.top c.args.arity n.0 n.1 in
+    let h = c.in_ok-record.ensures in
     record {
       capacity = h.capacity;
       records = h.records;
       cases =
-          pushed before after _ c.args.stack.now c.replace_top.new.stack c.args.top c.args.arity c.replace_top.result c.in-Some.at c.requires.records
-          (subst (λ t. Interned before after t c.in-Some.at) e h.cases) c.replace_top.ensures.top c.replace_top.ensures.stack;
+          pushed before after _ c.args.stack.now c.replace.new.self c.args.arity c.in_ok-record.record c.requires.records
+          (subst (λ t. Interned before after t c.in_ok-record.record) (over (goal.at.returns c).In_ok-node) h.cases) c.replace.ensures.room c.replace.ensures.records;
     }

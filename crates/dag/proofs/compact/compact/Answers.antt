@@ -3,35 +3,27 @@ use Rattle.dag.specs.Roots.{RootsInUse, Slid}
 use Rattle.dag.specs.Tables.{trees}
 use Rattle.dag.proofs.Compacting.{children_marked, compacted}
 use Rattle.dag.proofs.Invariant.{distinct_trees, one_tree_each}
-use Rattle.dag.proofs.Visiting.{walk_starts}
 use Rattle.dag.proofs.compact.compact.Goals as goal
-
-pub mark_roots-count-requires : goal.mark_roots-count-requires
-mark_roots-count-requires c =
-    let t = c.args.table.now in
-    record {
-      roots = c.requires.roots;
-      walked = walk_starts _ _ _ (omega (arith, one_tree_each t, t.fits, c.requires.sizes.0)) (omega (arith, one_tree_each t, t.fits, c.requires.sizes.1)) c.requires.clear;
-    }
 
 pub slide-requires : goal.slide-requires
 slide-requires c =
     let t = c.args.table.now in
     record {
-      sizes = (omega (arith, c.mark_roots-count.auto.marks, c.requires.sizes.0), c.requires.sizes.2);
-      marked = children_marked t _ _ _ c.mark_roots-count.ensures.walked;
+      sizes = (omega (arith, c.mark_roots.auto.marks, c.requires.sizes.0), c.requires.sizes.2);
+      marked = children_marked t _ _ _ c.mark_roots.ensures.walked;
     }
 
 pub returns : goal.returns
 returns c =
     let t = c.args.table.now in
     let ts = trees t in
+    let w = c.mark_roots.ensures in
     record {
       clear = c.drop-guard.ensures;
       capacity = c.slide.ensures.capacity;
       compacted =
-          compacted ts c.args.roots.now c.mark_roots-count.new.marks c.mark_roots-count.new.order c.mark_roots-count.result c.mark_roots-count.ensures.walked
-          c.mark_roots-count.ensures.listed (subst (λ n. RootsInUse n c.args.roots.now) (sym (one_tree_each t)) c.requires.roots) (trees c.slide.new.table) c.slide.new.numbers
-          (subst (λ n. Slid ts c.mark_roots-count.new.marks n (trees c.slide.new.table) c.slide.new.numbers) (sym (one_tree_each t)) c.slide.ensures.slid)
+          compacted ts c.args.roots.now c.mark_roots.new.marks c.mark_roots.new.order w.count w.walked
+          w.list (subst (λ n. RootsInUse n c.args.roots.now) (sym (one_tree_each t)) c.requires.roots) (trees c.slide.new.table) c.slide.new.numbers
+          (subst (λ n. Slid ts c.mark_roots.new.marks n (trees c.slide.new.table) c.slide.new.numbers) (sym (one_tree_each t)) c.slide.ensures.slid)
           (distinct_trees c.slide.new.table) c.renumber_roots.new.roots c.renumber_roots.auto.roots c.renumber_roots.ensures;
     }

@@ -3,7 +3,6 @@ use Rattle.dag.specs.Rows.{ChildrenBelow}
 use Rattle.dag.specs.Tables.{trees}
 use Rattle.dag.specs.Trees.{row_tree}
 use Rattle.dag.proofs.Folding.{tree_of_row}
-use Rattle.dag.proofs.Invariant.{valid}
 use Rattle.dag.proofs.table.Table.node.Goals as goal
 
 pub returns : goal.returns
@@ -12,7 +11,7 @@ returns c =
     let i = c.args.at in
     let e = c.from_shaped_row.ensures ∙ c.row_at.ensures in
     record {
-      below = subst (ChildrenBelow i) (sym e) (t.below i c.requires);
-      over = subst (ChildrenBelow t.count) (sym e) (λ j h. omega (arith, c.requires, t.below i c.requires j h));
-      same = (c.requires, tree_of_row (vec_items t.rows) t.count (valid t) i c.requires ∙ ap (row_tree (trees t)) (sym e));
+      below = subst (ChildrenBelow i) (sym e) (t.valid.children_below i c.requires);
+      over = subst (ChildrenBelow t.count) (sym e) (λ j h. omega (arith, c.requires, t.valid.children_below i c.requires j h));
+      same = (c.requires, tree_of_row (vec_items t.rows) t.count t.valid i c.requires ∙ ap (row_tree (trees t)) (sym e));
     }

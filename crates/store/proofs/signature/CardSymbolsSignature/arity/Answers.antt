@@ -1,9 +1,8 @@
-use Rattle.std.proofs.Common.{sym}
-use Rattle.store.proofs.Signatures.{arity_there, arity_missing}
+use Rattle.std.proofs.Common.{rules}
+use Rattle.store.proofs.Signatures.{arity_read}
 use Rattle.store.proofs.signature.CardSymbolsSignature.arity.Goals as goal
 
-pub returns-then-symbol-self : goal.returns-then-symbol-self
-returns-then-symbol-self c = sym (arity_there c.args.self.now.0.now c.args.symbol _ c.if-symbol-self.true)
-
 pub returns : goal.returns
-returns c = sym (arity_missing c.args.self.now.0.now c.args.symbol c.if-symbol-self.false)
+returns c =
+    arity_read c.args.self.now.0.now c.args.symbol c.get.result c.map.result c.get.ensures.lookup.3 (λ e. rw e at c.map.ensures.cases)
+    (λ x e. let h = rw e at c.map.ensures.cases in search rules)

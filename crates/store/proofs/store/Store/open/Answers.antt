@@ -1,22 +1,34 @@
-use Rattle.std.proofs.Common.{◌-◌, ◌≤◌, length, take, vec_len, sym, refl, subst, arith, length-take}
-use native.Mathlib.Nat.{sub-zero}
-use Rattle.std.specs.List.{AllByRecursion}
-use Rattle.card.specs.Records.{arities, WellFormedSymbol}
-use Rattle.store.proofs.Opening.{few_arities, fresh_compact, fresh_on}
+use Rattle.std.proofs.Common.{◌≤◌, length, take, vec_len, refl, ap, arith, length-take}
+use Rattle.card.specs.Records.{arities}
+use Rattle.dag.specs.Roots.{held_trees}
+use Rattle.dag.specs.Tables.{trees}
+use Rattle.store.proofs.Opening.{few_arities, ok_kept, fresh_compact, fresh_on}
 use Rattle.store.proofs.store.Store.open.Goals as goal
 
 pub invariant_of-result : goal.invariant_of-result
 invariant_of-result c =
     let kept = c.if-not-keeps_rules.ensures.0 refl in
     let few = kept.few_symbols in
-    let fresh = c.in-Ok.ensures in
+    let fresh = ok_kept c.new.result c.map_err.result c.in_ok-tins.tins _ _ _ c.map_err.ensures.cases c.in_ok-tins.was c.new.ensures in
     let n = c.args.card.symbols in
     let ss = c.args.symbols.now in
-    let many : length (take (n - 0) ss) ≤ 64 = omega (arith, length-take (n - 0) ss) in
-    let each : AllByRecursion WellFormedSymbol (take (n - 0) ss) = subst (λ k. AllByRecursion WellFormedSymbol (take k ss)) (sym (sub-zero n)) kept.keeps.each_symbol in
+    let many : length (take n ss) ≤ 64 = omega (arith, length-take n ss) in
+    let each = kept.keeps.each_symbol in
     record {
       many = many;
-      few = few_arities (take (n - 0) ss) each;
-      compact = fresh_compact c.in-Ok.tins (vec_len c.args.memory.nodes) fresh;
-      card = fresh_on (arities (take (n - 0) ss)) c.in-Ok.tins (vec_len c.args.memory.nodes) fresh;
+      few = few_arities (take n ss) each;
+      compact = fresh_compact c.in_ok-tins.tins (vec_len c.args.memory.nodes) fresh;
+      card = fresh_on (arities (take n ss)) c.in_ok-tins.tins (vec_len c.args.memory.nodes) fresh;
+    }
+
+pub returns : goal.returns
+returns c =
+    let fresh = ok_kept c.new.result c.map_err.result c.in_ok-tins.tins _ _ _ c.map_err.ensures.cases c.in_ok-tins.was c.new.ensures in
+    record {
+      suits = c.if-not-suits.ensures.0 refl;
+      kept = c.if-not-keeps_rules.ensures.0 refl;
+      symbols = refl;
+      rules = refl;
+      empty = ap (held_trees (trees c.in_ok-tins.tins.table)) fresh.no_roots;
+      room = fresh.as_many;
     }

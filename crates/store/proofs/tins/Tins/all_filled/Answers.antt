@@ -1,23 +1,11 @@
-use Rattle.std.proofs.Common.{is_some, sym, ap, ◌∙◌}
-use Rattle.std.proofs.lemmas.List.{at_drop_all}
-use Rattle.store.specs.Sources.{all_filled}
-use Rattle.store.proofs.Sources.{tins_front, empty_here, filled_here}
+use Rattle.std.proofs.Common.{◌∙◌, sym, get_or, is_some, None, rules, tests}
+use Rattle.std.proofs.lemmas.Iterator.{YieldsList-from_slice}
+use Rattle.std.proofs.lemmas.Iterator.Search.{all_from_yields_List}
+use Rattle.store.proofs.Sources.{all_filled_is}
 use Rattle.store.proofs.tins.Tins.all_filled.Goals as goal
 
-pub root-requires : goal.root-requires
-root-requires c = (tins_front c.args.sources.now c.loop-source.source-index c.loop-source-test.true c.loop-source.invariant.1).0
-
-pub returns-then-not-is_some : goal.returns-then-not-is_some
-returns-then-not-is_some c =
-    let e = ap is_some (sym c.root.ensures) ∙ sym c.if-not-is_some.ensures in
-    sym (empty_here c.args.sources.now c.loop-source.source-index c.loop-source-test.true c.args.self.now.roots e) ∙ c.loop-source.invariant.0
-
-pub loop-source-preserved : goal.loop-source-preserved
-loop-source-preserved c =
-    let e = ap is_some (sym c.root.ensures) ∙ sym c.if-not-is_some.ensures in (
-      sym (filled_here c.args.sources.now c.loop-source.source-index c.loop-source-test.true c.args.self.now.roots e) ∙ c.loop-source.invariant.0,
-      (tins_front c.args.sources.now c.loop-source.source-index c.loop-source-test.true c.loop-source.invariant.1).1,
-    )
-
 pub returns : goal.returns
-returns c = sym (at_drop_all (all_filled c.args.self.now.roots) c.args.sources.now c.loop-source.source-index c.loop-source-test.false) ∙ c.loop-source.invariant.0
+returns c =
+    let xs = c.args.sources.now in
+    let roots = c.args.self.now.roots in
+    all_from_yields_List (λ tin. is_some (get_or roots tin None)) _ _ c.all.result c.all.ensures.ran (YieldsList-from_slice xs cc) (λ x b q k. search (rules, tests)) ∙ sym (all_filled_is roots xs)

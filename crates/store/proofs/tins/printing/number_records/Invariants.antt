@@ -1,5 +1,5 @@
 use Rattle.store.specs.Printing.{NumberedTo}
 use Rattle.store.proofs.tins.printing.number_records.Given as goal
 
-abbrev pub invariant-loop-i : goal.invariant-loop-i
-invariant-loop-i l = NumberedTo l.i l.order l.numbers
+abbrev pub invariant-loop-place : goal.invariant-loop-place
+invariant-loop-place l = NumberedTo l.place l.order l.numbers

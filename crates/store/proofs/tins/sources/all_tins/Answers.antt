@@ -1,14 +1,11 @@
-use Rattle.std.proofs.Common.{sym, ◌∙◌}
-use Rattle.std.proofs.lemmas.List.{at_drop_all}
-use Rattle.store.specs.Results.{all_tins}
-use Rattle.store.proofs.Sources.{no_tin_here, tin_here}
+use Rattle.std.proofs.Common.{◌∙◌, sym, rules, tests}
+use Rattle.std.proofs.lemmas.Iterator.{YieldsList-from_slice}
+use Rattle.std.proofs.lemmas.Iterator.Search.{all_from_yields_List}
+use Rattle.store.proofs.Sources.{all_tins_is}
+use Rattle.store.specs.Results.{is_tin}
 use Rattle.store.proofs.tins.sources.all_tins.Goals as goal
 
-pub returns-then-source-ge16 : goal.returns-then-source-ge16
-returns-then-source-ge16 c = sym (no_tin_here c.args.sources.now c.loop-source.source-index c.loop-source-test.true c.if-source-ge16.true) ∙ c.loop-source.invariant
-
-pub loop-source-preserved : goal.loop-source-preserved
-loop-source-preserved c = sym (tin_here c.args.sources.now c.loop-source.source-index c.loop-source-test.true c.if-source-ge16.false) ∙ c.loop-source.invariant
-
 pub returns : goal.returns
-returns c = sym (at_drop_all all_tins c.args.sources.now c.loop-source.source-index c.loop-source-test.false) ∙ c.loop-source.invariant
+returns c =
+    let xs = c.args.sources.now in
+    all_from_yields_List is_tin _ _ c.all.result c.all.ensures.ran (YieldsList-from_slice xs cc) (λ x b q k. search (rules, tests)) ∙ sym (all_tins_is xs)
