@@ -1,12 +1,12 @@
 // The two phases of a card that is read: lines that are taken as symbols, and lines that are taken as rules.
-mod reading;
+mod both;
 mod rules;
 mod symbols;
 
 ghost use Rattle.card.specs.Records.{Kept};
 ghost use Rattle.draft.specs.Drafts.{counts};
 
-pub use crate::phase::reading::read_lines;
+pub use crate::phase::both::read_lines;
 use card::record::{RuleRecord, SymbolRecord};
 use draft::draft::{RuleDraft, SymbolDraft};
 

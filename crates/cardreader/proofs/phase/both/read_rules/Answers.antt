@@ -1,7 +1,7 @@
 use Rattle.std.proofs.Common.{sym, ◌∙◌, subst, rules}
 use Rattle.cardreader.specs.Reading.{SymbolsEnded}
 use Rattle.cardreader.proofs.Phases.{accepted_then, never_refused}
-use Rattle.cardreader.proofs.phase.reading.read_rules.Goals as goal
+use Rattle.cardreader.proofs.phase.both.read_rules.Goals as goal
 
 pub returns-in-Ok-accept : goal.returns-in-Ok-accept
 returns-in-Ok-accept c =

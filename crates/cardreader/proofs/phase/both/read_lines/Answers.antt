@@ -4,7 +4,7 @@ use Rattle.cardtext.specs.Lines.{lines}
 use Rattle.cardreader.specs.CardTexts.{symbol_lines}
 use Rattle.cardreader.specs.Reading.{symbols_outcome}
 use Rattle.cardreader.proofs.Phases.{ended_then, kept_then, read_then}
-use Rattle.cardreader.proofs.phase.reading.read_lines.Goals as goal
+use Rattle.cardreader.proofs.phase.both.read_lines.Goals as goal
 
 pub read_rules-requires : goal.read_rules-requires
 read_rules-requires c = kept_then c.take_all.new.self.kept (search rules) (search rules) (search rules)
