@@ -64,9 +64,7 @@ def loops(lines):
             yield i, "range"
         elif re.search(r"\w+ \+= 1;|\w+ = \w+ \+ 1;", text):
             yield i, "count"
-        elif "enumerate()" in line:
-            yield i, "enumerate"
-        elif re.search(r"return (true|false|None|Some\(|Ok\(Some|\w+;)", text):
+        elif re.search(r"return (true|false|None|Some\(|Ok\(Some|\w+;|\w+ \+ 1;)", text):
             yield i, "search"
 
 

@@ -20,7 +20,7 @@ fn is_blank(b: u8) -> bool
 #[derive(Drop)]
 struct Kept<'a> {
     text: &'a [u8],
-    // whether the byte before the text is part of a note
+    // whether the byte before the text is part of a note; no value hangs on it
     noted: bool,
 }
 

@@ -18,10 +18,7 @@ pub fn next_is<S: Source>(src: &S, b: u8) -> bool
 pub fn fault_here<S: Source>(src: &S) -> Fault
     ensures { result ≡ unexpected (S.Source.rest src.now) }
 {
-    match src.peek() {
-        Some(_) => Fault::WrongByte,
-        None => Fault::EarlyEnd,
-    }
+    src.peek().map_or(Fault::EarlyEnd, |_| Fault::WrongByte)
 }
 
 // Nothing may follow.
@@ -30,10 +27,10 @@ pub(crate) fn at_end<S: Source>(src: &S) -> Result<(), Fault>
         (λ _. S.Source.rest src.now ≡ [])
         (λ f. (f ≡ WrongByte) × (0 < length (S.Source.rest src.now))) }
 {
-    match src.peek() {
-        Some(_) => Err(Fault::WrongByte),
-        None => Ok(()),
+    if src.peek().is_some() {
+        return Err(Fault::WrongByte);
     }
+    Ok(())
 }
 
 // The letters that come next, filled with zeros to 12 bytes. A 13th letter is a fault, and is still to come then.

@@ -134,6 +134,7 @@ pub fn read_term<S: Source>(
     let head = start.read_head(src)?;
     out[filled] = head.place;
     let mut filled = filled + 1;
+    // a count of children still due, not an index into anything
     for left in (0..head.children).rev() {
         filled = read_term(src, grammar, out, filled, depth + 1)?;
         end_child(src, left)?;

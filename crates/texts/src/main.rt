@@ -30,6 +30,7 @@ impl Tables {
         }
     }
 
+    // Both outcomes are printed, here and below, so there is nothing for `?` to pass on.
     fn print_card(&mut self, rt: &HostRuntime, text: &[u8]) -> anyhow::Result<()> {
         self.card = Card::default();
         match read_card(text, &mut self.buffer, &mut self.symbols, &mut self.rules) {

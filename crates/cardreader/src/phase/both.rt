@@ -12,7 +12,8 @@ use card::record::{Card, RuleRecord, SymbolRecord};
 use cardtext::cursor::Lines;
 use draft::draft::SymbolDraft;
 
-// The rule phase, up to the card. A draft that takes a broken line is torn up.
+// The rule phase, up to the card. A draft that takes a broken line is torn up. It has to be spent on each way out, so the
+// results are taken apart by `match` and not by `?`.
 fn read_rules(
     draft: SymbolDraft,
     symbols: &mut [SymbolRecord],
@@ -52,7 +53,7 @@ fn read_rules(
     }
 }
 
-// Both phases.
+// Both phases. Here too the draft is spent on each way out.
 pub fn read_lines(
     draft: SymbolDraft,
     symbols: &mut [SymbolRecord],

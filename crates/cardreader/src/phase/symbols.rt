@@ -28,7 +28,8 @@ impl SymbolPhase<'_> {
             })
     }
 
-    // The lines still to come; the first that states a rule ends them.
+    // The lines still to come; the first that states a rule ends them. No `find`: each line before it is taken, with the
+    // number that the cursor gives it.
     pub fn take_all<'t>(&mut self, lines: &mut Lines<'t>) -> Result<Option<&'t [u8]>, CardFault>
         ensures same { SameSymbolPhase self.old self.new }
         ensures cases { MatchResult result
