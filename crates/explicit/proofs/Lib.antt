@@ -1,1 +1,3 @@
+pub mod Equality
 pub mod Loops
+pub mod Instances
