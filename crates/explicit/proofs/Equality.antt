@@ -1,12 +1,12 @@
 -- `==` on trees answers what the theory's test does. Assumes nothing.
-use Rattle.std.proofs.Common.{◌≡◌, Bool, ◌&&◌, List, [], ◌∷◌, map, refl, sym, ap, ◌∙◌, subst, ◌==◌}
+use Rattle.std.proofs.Common.{◌≡◌, ◌&&◌, List, [], ◌∷◌, map, refl, ap, ◌∙◌, subst, ◌==◌}
 use lib.Pointwise.{pointwise}
 use Rattle.rewriting.specs.Terms as theory
 use Rattle.explicit.specs.declared.tree.Tree.{Tree, out-Tree, roll-Tree, out-roll-Tree}
 use Rattle.explicit.specs.declared.tree.Tree.TheFolds.{fold-roll-Tree, fold_out-Tree, ind-Tree}
 use Rattle.explicit.specs.contracts.tree.TreePartialEq.TheImpl.{ghosts}
 use Rattle.explicit.specs.contracts.tree.TreePartialEq.TheImpl.Laws.{is, laws-law}
-use Rattle.explicit.specs.Meaning.{tree_step, tree_of, trees_of}
+use Rattle.explicit.specs.Meaning.{tree_of, trees_of}
 
 abbrev Same : Tree → Type 0
 Same t = (u : Tree) → ghosts.eq t u ≡ theory.same (tree_of t) (tree_of u)

@@ -1,26 +1,12 @@
--- Levels of trees and terms, and what a substitution makes of terms side by side. Assumes nothing.
-use Rattle.std.proofs.Common.{◌≡◌, ℕ, zero, suc, ◌<◌, ◌≤◌, true, Bool, ◌||◌, List, [], ◌∷◌, map, length, get_or, take, refl, sym, ap, ◌∙◌, arith}
+-- What a substitution makes of terms side by side, and the variables that occur in them. Assumes nothing.
+use Rattle.std.proofs.Common.{◌≡◌, ℕ, zero, suc, ◌<◌, ◌≤◌, true, List, [], ◌∷◌, map, length, get_or, take, Vec, Global, refl, sym, ap, ◌∙◌, arith}
 use Rattle.std.proofs.lemmas.List.{take_all}
 use Rattle.std.proofs.lemmas.Bool.{or_left, or_right}
-use Rattle.rewriting.specs.Terms.{Substitution, apply, applies, occurs, occurs_in, app, var, cons, node}
-use Rattle.explicit.specs.declared.tree.Tree.{Tree, out-Tree, roll-Tree}
-use Rattle.explicit.specs.declared.tree.Tree.TheOpen.{Tree-F}
-use Rattle.explicit.specs.declared.tree.Tree.TheFolds.{fold-roll-Tree, fold_out-Tree}
-use Rattle.explicit.specs.declared.term.Term.{Term, Variable, Symbol, the_lemmas}
-use Rattle.explicit.specs.Meaning.{row, tree_step, tree_of, trees_of, term_of, terms_of}
-use Rattle.std.proofs.Common.{Vec, Global, rules}
-
-pub tree_of-roll : (x : Tree-F Tree) → tree_of (roll-Tree x) ≡ node x.symbol (trees_of x.children.items)
-tree_of-roll = fold-roll-Tree _ tree_step
-
-pub tree_of-out : (t : Tree) → tree_of t ≡ node (out-Tree t).symbol (trees_of (out-Tree t).children.items)
-tree_of-out = fold_out-Tree _ tree_step
-
-pub term_of-variable : (v : ℕ) → term_of (Variable v) ≡ var v
-term_of-variable v = search (rules, the_lemmas)
-
-pub term_of-symbol : (f : ℕ) (ts : Vec Term Global) → term_of (Symbol f ts) ≡ app f (terms_of ts.items)
-term_of-symbol f ts = search (rules, the_lemmas)
+use Rattle.rewriting.specs.Terms.{Substitution, apply, applies, occurs, occurs_in, cons, node}
+use Rattle.explicit.specs.declared.tree.Tree.{Tree}
+use Rattle.explicit.specs.declared.term.Term.{Term, Symbol}
+use Rattle.explicit.specs.Meaning.{row, tree_of, trees_of, term_of, terms_of}
+use Rattle.explicit.proofs.Levels.{term_of-symbol}
 
 pub applies-row : (σ : Substitution) (ls : List Term) → applies σ (terms_of ls) ≡ row (map (λ l. apply σ (term_of l)) ls)
 applies-row σ [] = refl

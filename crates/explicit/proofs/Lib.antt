@@ -1,3 +1,4 @@
 pub mod Equality
-pub mod Loops
 pub mod Instances
+pub mod Levels
+pub mod Loops

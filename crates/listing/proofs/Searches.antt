@@ -1,5 +1,5 @@
 -- Searches for a tree in a list, and what a walk adds. Assumes nothing.
-use Rattle.std.proofs.Common.{◌≡◌, ℕ, zero, suc, ◌+◌, ◌≤◌, Bool, true, false, ◌||◌, List, [], ◌∷◌, ◌++◌, Some, None, Option, length, drop, map, sym, refl, ap, ◌∙◌, cond, ltb, unwrap_or, arith, one-add, Bor}
+use Rattle.std.proofs.Common.{◌≡◌, ℕ, zero, suc, ◌+◌, ◌≤◌, Bool, true, false, List, [], ◌∷◌, ◌++◌, Some, None, Option, length, drop, map, sym, refl, ap, ◌∙◌, cond, ltb, unwrap_or, arith, one-add, Bor}
 use Rattle.std.specs.List.{list_any, position_or_len}
 use Rattle.std.proofs.lemmas.Bool.{ltb-false}
 use Rattle.std.proofs.lemmas.List.{map_push}
@@ -10,7 +10,7 @@ use Rattle.explicit.specs.contracts.tree.TreePartialEq.TheImpl.{ghosts}
 use Rattle.explicit.specs.declared.tree.Tree.{Tree, out-Tree}
 use Rattle.explicit.specs.Meaning.{tree_of, trees_of, listed}
 use Rattle.explicit.proofs.Equality.{eq_is_same_back}
-use Rattle.explicit.proofs.Instances.{tree_of-out}
+use Rattle.explicit.proofs.Levels.{tree_of-out}
 use Rattle.explicit.proofs.Loops.{ends}
 
 pub contains_is : (t : Tree) (us : List (Bor Tree)) → list_any (λ u. ghosts.eq u.now t) us ≡ member (tree_of t) (listed us)

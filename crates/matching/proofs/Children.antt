@@ -7,7 +7,7 @@ use Rattle.rewriting.specs.Matching as matching
 use Rattle.explicit.specs.declared.tree.Tree.{Tree, out-Tree}
 use Rattle.explicit.specs.declared.term.Term.{Term, Symbol}
 use Rattle.explicit.specs.declared.card.Rule.{Rule}
-use Rattle.explicit.proofs.Instances.{tree_of-out, term_of-symbol}
+use Rattle.explicit.proofs.Levels.{tree_of-out, term_of-symbol}
 use Rattle.std.proofs.lemmas.Bool.{ne_eqb}
 use Rattle.explicit.specs.Meaning.{rule_of, term_of, terms_of, tree_of, trees_of}
 

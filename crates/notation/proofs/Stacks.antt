@@ -9,7 +9,7 @@ use Rattle.notation.specs.declared.place.Place.{Place}
 use Rattle.notation.specs.declared.place.Place.TheVariants as declared
 use Rattle.explicit.specs.declared.term.Term.{Term, Variable, Symbol}
 use Rattle.explicit.specs.Meaning.{rowᵗ, term_of, terms_of}
-use Rattle.explicit.proofs.Instances.{term_of-variable, term_of-symbol}
+use Rattle.explicit.proofs.Levels.{term_of-variable, term_of-symbol}
 use Rattle.notation.specs.Stack.{first, place_of, stack_of}
 
 pub stack_push : (ts : List Term) (t : Term) → stack_of (ts ++ (t ∷ [])) ≡ term_of t ∷ stack_of ts

@@ -2,7 +2,7 @@
 use Rattle.std.proofs.Common.{◌≡◌, ℕ, ◌+◌, ◌<◌, ◌≤◌, List, [], ◌∷◌, ◌++◌, length, get_or, drop, sym, ap, ◌∙◌, append_assoc}
 use Rattle.explicit.specs.declared.tree.Tree.{Tree, out-Tree}
 use Rattle.explicit.specs.Meaning.{tree_of, trees_of}
-use Rattle.explicit.proofs.Instances.{tree_of-out}
+use Rattle.explicit.proofs.Levels.{tree_of-out}
 use Rattle.explicit.proofs.Loops.{reads, ends}
 use Rattle.notation.specs.Text.{text, text_children, text_rest}
 

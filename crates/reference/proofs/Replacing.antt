@@ -6,7 +6,7 @@ use Rattle.rewriting.specs.Sites.{replace, replaces}
 use Rattle.explicit.specs.declared.tree.Tree as declared
 use Rattle.explicit.specs.declared.tree.Tree.{out-Tree}
 use Rattle.explicit.specs.Meaning.{row, tree_of, trees_of}
-use Rattle.explicit.proofs.Instances.{tree_of-out}
+use Rattle.explicit.proofs.Levels.{tree_of-out}
 
 module _ (s r : Tree) where
   pub replaced : (u : Tree) → same s u ≡ true → r ≡ replace s r u

@@ -1,7 +1,7 @@
 -- Whether a tree is among the subterms of some trees, without listing them. Assumes nothing.
-use Rattle.std.proofs.Common.{◌≡◌, ℕ, ◌+◌, ◌<◌, ◌≤◌, Bool, true, false, ◌||◌, List, [], ◌∷◌, ◌++◌, length, get_or, drop, sym, refl, ap, ◌∙◌}
+use Rattle.std.proofs.Common.{◌≡◌, ℕ, ◌+◌, ◌<◌, Bool, true, false, ◌||◌, List, [], ◌∷◌, ◌++◌, length, get_or, drop, sym, refl, ap, ◌∙◌}
 use mathlib.Core.Bool.{or_assoc, or-false, or_comm}
-use Rattle.rewriting.specs.Terms.{Tree, node, Trees, nil, cons, same, sames}
+use Rattle.rewriting.specs.Terms.{Tree, node, Trees, nil, cons, same}
 use Rattle.rewriting.specs.Sites.{proper}
 use Rattle.rewriting.specs.Subterms.{member, add, walk, walks}
 use Rattle.rewriting.proofs.Equality.{same_eq}

@@ -1,5 +1,5 @@
 -- What the library's searches and filters of a list are in the theory. Assumes nothing.
-use Rattle.std.proofs.Common.{◌≡◌, ℕ, suc, ◌+◌, Bool, true, false, ◌||◌, List, [], ◌∷◌, map, filter, Some, Option, sym, refl, ap, ◌∙◌, cond, add-one, Bor}
+use Rattle.std.proofs.Common.{◌≡◌, ℕ, suc, ◌+◌, Bool, true, false, ◌||◌, List, [], ◌∷◌, map, filter, Some, refl, ap, ◌∙◌, cond, add-one, Bor}
 use Rattle.std.specs.List.{list_any, position_from}
 use Rattle.rewriting.specs.Terms as theory
 use Rattle.rewriting.specs.Runs.{first_from}

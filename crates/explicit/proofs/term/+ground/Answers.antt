@@ -1,6 +1,7 @@
 use Rattle.std.proofs.Common.{◌∙◌, subst}
 use Rattle.explicit.specs.Meaning.{Ground, term_of}
-use Rattle.explicit.proofs.Instances.{tree_of-roll, instance_made, occurs_below}
+use Rattle.explicit.proofs.Instances.{instance_made, occurs_below}
+use Rattle.explicit.proofs.Levels.{tree_of-roll}
 use Rattle.explicit.proofs.term.+ground.Goals as goal
 
 pub returns-in_default-2 : goal.returns-in_default-2

@@ -1,4 +1,4 @@
-use Rattle.std.proofs.Common.{refl, ◌∙◌}
+use Rattle.std.proofs.Common.{refl}
 use Rattle.listing.proofs.Searches.{is_there, is_added}
 use Rattle.listing.proofs.subterm.+walk.Goals as goal
 

@@ -1,7 +1,7 @@
 use Rattle.std.proofs.Common.{◌∙◌, sym, rules}
 use Rattle.explicit.specs.Meaning.{tree_of}
 use Rattle.explicit.proofs.Equality.{eq_is_same}
-use Rattle.explicit.proofs.Instances.{tree_of-roll}
+use Rattle.explicit.proofs.Levels.{tree_of-roll}
 use Rattle.reference.proofs.Replacing.{replaced, rebuilt}
 use Rattle.reference.proofs.step.+replace.Goals as goal
 

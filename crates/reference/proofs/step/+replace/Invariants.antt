@@ -1,11 +1,7 @@
 use Rattle.std.proofs.Common.{◌≡◌, take, map}
 use Rattle.rewriting.specs.Sites as theory
-use Rattle.explicit.proofs.tree.Tree.TheLaws as tree
 use Rattle.explicit.specs.Meaning.{tree_of}
 use Rattle.reference.proofs.step.+replace.Given as goal
-
-abbrev pub decreases-replace : goal.decreases-replace
-decreases-replace l = tree.the_size l.tree.now
 
 abbrev pub invariant-loop-child : goal.invariant-loop-child
 invariant-loop-child l =

@@ -1,12 +1,8 @@
 use Rattle.std.proofs.Common.{◌≡◌, [], drop}
 use Rattle.rewriting.specs.Sites as theory
 use Rattle.rewriting.specs.Subterms.{member, walks}
-use Rattle.explicit.proofs.tree.Tree.TheLaws as tree
 use Rattle.explicit.specs.Meaning.{tree_of, trees_of}
 use Rattle.sites.proofs.site.+is_below.Given as goal
-
-abbrev pub decreases-is_below : goal.decreases-is_below
-decreases-is_below l = tree.the_size l.whole.now
 
 -- the children that are left decide
 abbrev pub invariant-loop-child : goal.invariant-loop-child

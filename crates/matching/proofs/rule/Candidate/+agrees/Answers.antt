@@ -1,7 +1,7 @@
 use Rattle.std.proofs.Common.{sym, ap, ◌∙◌, arith}
 use Rattle.rewriting.specs.Terms.{apply, same}
 use Rattle.explicit.proofs.Equality.{eq_is_same}
-use Rattle.explicit.proofs.Instances.{term_of-variable}
+use Rattle.explicit.proofs.Levels.{term_of-variable}
 use Rattle.explicit.specs.Meaning.{term_of, tree_of}
 use Rattle.explicit.specs.declared.tree.Tree.{out-Tree}
 use Rattle.matching.specs.Bindings.{bindings_of}

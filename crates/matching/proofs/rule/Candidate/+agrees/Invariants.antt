@@ -2,13 +2,9 @@ use Rattle.std.proofs.Common.{◌≡◌, length}
 use Rattle.std.specs.Iterator.Adapters.{zip_first, zip_second}
 use Rattle.std.specs.Slice.Iter.{iter_rest}
 use Rattle.rewriting.specs.Terms as theory
-use Rattle.explicit.proofs.term.Term.TheLaws as term
 use Rattle.explicit.specs.Meaning.{term_of, terms_of, tree_of, trees_of}
 use Rattle.matching.specs.Bindings.{bindings_of}
 use Rattle.matching.proofs.rule.Candidate.+agrees.Given as goal
-
-abbrev pub decreases-agrees : goal.decreases-agrees
-decreases-agrees l = term.the_size l.part.now
 
 -- the children that are left decide
 abbrev pub invariant-loop-p : goal.invariant-loop-p

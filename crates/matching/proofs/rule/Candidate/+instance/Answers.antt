@@ -1,5 +1,6 @@
 use Rattle.std.proofs.Common.{◌∙◌}
-use Rattle.explicit.proofs.Instances.{tree_of-roll, instance_made}
+use Rattle.explicit.proofs.Instances.{instance_made}
+use Rattle.explicit.proofs.Levels.{tree_of-roll}
 use Rattle.matching.specs.Bindings.{bindings_of}
 use Rattle.matching.proofs.rule.Candidate.+instance.Goals as goal
 
