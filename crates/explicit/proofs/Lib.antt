@@ -1,1 +1,4 @@
+pub mod Equality
+pub mod Instances
+pub mod Levels
 pub mod Loops

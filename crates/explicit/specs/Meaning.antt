@@ -1,38 +1,48 @@
 -- What the program's trees, terms, rules and cards stand for in the theory. Assumes nothing.
-use Rattle.std.specs.Prelude.{◌≡◌, ℕ, true, List, [], map, Some, None, vec_items, string_bytes, Option}
+use Rattle.std.specs.Prelude.{◌≡◌, ℕ, true, List, [], ◌∷◌, map, Some, None, vec_items, string_bytes, Option}
 use Rattle.std.specs.Borrow.{Bor}
 use Rattle.std.specs.List.{slice_get}
 use Rattle.std.specs.Option.{option_map, unwrap_or}
 use Rattle.rewriting.specs.Terms as theory
 use Rattle.rewriting.specs.Cards as cards
-use Rattle.explicit.specs.declared.tree.Tree.{Tree}
-use Rattle.explicit.specs.declared.tree.Trees.{Trees}
-use Rattle.explicit.specs.declared.tree.Trees.TheVariants.{Nil, Cons'}
-use Rattle.explicit.specs.declared.term.Term.{Term}
-use Rattle.explicit.specs.declared.term.Term.TheVariants as term
-use Rattle.explicit.specs.declared.term.Terms.{Terms}
+use Rattle.explicit.specs.declared.tree.Tree.{Tree, fold-Tree}
+use Rattle.explicit.specs.declared.tree.Tree.TheOpen.{Tree-F}
+use Rattle.explicit.specs.declared.term.Term.{Term, fold-Term}
+use Rattle.explicit.specs.declared.term.Term.TheOpen.{Term-F}
 use Rattle.explicit.specs.declared.card.Symbol.{Symbol}
 use Rattle.explicit.specs.declared.card.Rule.{Rule}
 use Rattle.explicit.specs.declared.card.Card.{Card}
 
--- a box is given in two parts here: what points, p or q, and the value beside it
-abbrev pub trees_of : Trees → theory.Trees
-trees_of Nil = theory.nil
-trees_of (Cons' p f us q ts) = theory.cons (theory.node f (trees_of us)) (trees_of ts)
+-- a list of trees, as a tree has its children
+abbrev pub row : List theory.Tree → theory.Trees
+row [] = theory.nil
+row (t ∷ ts) = theory.cons t (row ts)
 
--- a symbol is its number
+-- one level: a symbol is its number
+abbrev pub tree_step : Tree-F theory.Tree → theory.Tree
+tree_step t = theory.node t.symbol (row t.children.items)
+
 abbrev pub tree_of : Tree → theory.Tree
-tree_of t = theory.node t.symbol (trees_of t.children)
+tree_of = fold-Tree theory.Tree tree_step
 
--- and so is a variable
-abbrev mutual
-  pub term_of : Term → theory.Term
-  term_of (term.Variable v) = theory.var v
-  term_of (term.Symbol f ts) = theory.app f (terms_of ts)
+abbrev pub trees_of : List Tree → theory.Trees
+trees_of ts = row (map tree_of ts)
 
-  pub terms_of : Terms → theory.Terms
-  terms_of term.Nil = theory.nilᵗ
-  terms_of (term.Cons' p t q ts) = theory.consᵗ (term_of t) (terms_of ts)
+-- the same of terms
+abbrev pub rowᵗ : List theory.Term → theory.Terms
+rowᵗ [] = theory.nilᵗ
+rowᵗ (t ∷ ts) = theory.consᵗ t (rowᵗ ts)
+
+-- and a variable is its number
+abbrev pub term_step : Term-F theory.Term → theory.Term
+term_step (Term-F.Variable v) = theory.var v
+term_step (Term-F.Symbol f ts) = theory.app f (rowᵗ ts.items)
+
+abbrev pub term_of : Term → theory.Term
+term_of = fold-Term theory.Term term_step
+
+abbrev pub terms_of : List Term → theory.Terms
+terms_of ts = rowᵗ (map term_of ts)
 
 -- a rule keeps its number
 abbrev pub rule_of : Rule → cards.Rule
@@ -58,8 +68,3 @@ listed us = map (λ u. tree_of u.now) us
 abbrev pub Ground : theory.Term → Option Tree → Type 0
 Ground l None = (v : ℕ) × (theory.occurs v l ≡ true)
 Ground l (Some t) = (σ : theory.Substitution) → tree_of t ≡ theory.apply σ l
-
--- the same of a list of terms
-abbrev pub GroundAll : theory.Terms → Option Trees → Type 0
-GroundAll ls None = (v : ℕ) × (theory.occurs_in v ls ≡ true)
-GroundAll ls (Some ts) = (σ : theory.Substitution) → trees_of ts ≡ theory.applies σ ls

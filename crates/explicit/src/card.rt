@@ -26,21 +26,15 @@ pub struct Card {
 }
 
 // The name of a symbol, and nothing for a number past the last.
-pub fn name(symbols: &[Symbol], symbol: u8) -> &[u8]
+pub fn name(symbols: &[Symbol], symbol: u8) -> &str
     ensures { result.now ≡ name_of symbols.now symbol }
 {
-    match symbols.get(symbol as usize) {
-        Some(s) => s.name.as_bytes(),
-        None => &[],
-    }
+    symbols.get(symbol as usize).map_or("", |s| s.name.as_str())
 }
 
 // How many children a symbol takes: none for a number past the last.
 pub fn arity(symbols: &[Symbol], symbol: u8) -> u8
     ensures { result ≡ unwrap_or (signature symbols.now symbol) 0 }
 {
-    match symbols.get(symbol as usize) {
-        Some(s) => s.arity,
-        None => 0,
-    }
+    symbols.get(symbol as usize).map_or(0, |s| s.arity)
 }

@@ -1,63 +1,37 @@
 // Trees on the heap: equality and copies.
-ghost use Rattle.std.specs.Prelude.{◌≡◌, IfOk};
-ghost use Rattle.rewriting.specs.Terms.{same as same_tree, sames as same_trees};
-ghost use Rattle.explicit.specs.Meaning.{tree_of, trees_of};
+ghost use Rattle.std.specs.Prelude.{◌≡◌};
+ghost use Rattle.rewriting.specs.Terms.{same as same_tree};
+ghost use Rattle.explicit.specs.Meaning.{tree_of};
 
-use std::alloc::{AllocError, Global};
+use std::alloc::AllocError;
 
-#[cycle(tree)]
-#[derive(Drop)]
+#[derive(PartialEq, Eq, Drop)]
 pub struct Tree {
     pub symbol: u8,
-    pub children: Trees,
+    pub children: Vec<Tree>,
 }
 
-#[cycle(tree)]
-#[derive(Drop)]
-pub enum Trees {
-    Nil,
-    Cons(Box<Tree>, Box<Trees>),
-}
-
-#[cycle(all_same_same)]
-pub fn same(a: &Tree, b: &Tree) -> bool
-    ensures { result ≡ same_tree (tree_of a.now) (tree_of b.now) }
-{
-    a.symbol == b.symbol && all_same(&a.children, &b.children)
-}
-
-#[cycle(all_same_same)]
-fn all_same(a: &Trees, b: &Trees) -> bool
-    ensures { result ≡ same_trees (trees_of a.now) (trees_of b.now) }
-{
-    match (a, b) {
-        (Trees::Nil, Trees::Nil) => true,
-        (Trees::Cons(t, ts), Trees::Cons(u, us)) => same(t, u) && all_same(ts, us),
-        _ => false,
+impl Tree {
+    // Whether the trees have the same symbol over the same children, which is what `==` answers.
+    pub fn same(&self, other: &Tree) -> bool
+        ensures { result ≡ same_tree (tree_of self.now) (tree_of other.now) }
+    {
+        self == other
     }
 }
 
-#[cycle(copy_copy_all)]
-pub fn copy(heap: Global, t: &Tree) -> Result<Tree, AllocError>
-    ensures { IfOk result (λ u. tree_of u ≡ tree_of t.now) }
-{
-    let children = copy_all(heap, &t.children)?;
-    Ok(Tree {
-        symbol: t.symbol,
-        children,
-    })
-}
+// Written out, since a derived `clone` says nothing of a type that holds itself.
+impl Clone for Tree {
+    ghost is_clone = { λ t u. tree_of u ≡ tree_of t };
 
-#[cycle(copy_copy_all)]
-fn copy_all(heap: Global, ts: &Trees) -> Result<Trees, AllocError>
-    ensures { IfOk result (λ us. trees_of us ≡ trees_of ts.now) }
-{
-    match ts {
-        Trees::Nil => Ok(Trees::Nil),
-        Trees::Cons(t, rest) => {
-            let first = Box::new(heap, copy(heap, t)?)?;
-            let rest = Box::new(heap, copy_all(heap, rest)?)?;
-            Ok(Trees::Cons(first, rest))
+    fn clone(&self) -> Result<Tree, AllocError> {
+        let mut children = Vec::with_capacity(*self.children.allocator(), self.children.len())?;
+        for child in &self.children {
+            children.push(child.clone()?)?;
         }
+        Ok(Tree {
+            symbol: self.symbol,
+            children,
+        })
     }
 }

@@ -1,2 +1,1 @@
-pub mod Collections
-mod Searches
+pub mod Searches

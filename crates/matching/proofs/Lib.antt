@@ -1,1 +1,1 @@
-mod Fitting
+mod Children

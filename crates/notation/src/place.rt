@@ -6,7 +6,7 @@ ghost use Rattle.rewriting.specs.Places.{firsts, forest as forest_of, grow as gr
 ghost use Rattle.std.specs.Option.{option_map};
 
 use explicit::card::{Symbol, arity};
-use explicit::term::{Term, Terms};
+use explicit::term::Term;
 use std::alloc::{AllocError, Global};
 
 #[derive(Clone, Copy)]
@@ -15,35 +15,22 @@ pub enum Place {
     Variable(u8),
 }
 
-// As many terms from the top of the stack, or all of a smaller stack.
-fn take_terms(heap: Global, stack: &mut Vec<Term>, count: u8) -> Result<Terms, AllocError>
-    ensures { IfOk result (λ ts. (terms_of ts ≡ firsts count (stack_of stack.old.items)) × (stack_of stack.new.items ≡ drop count (stack_of stack.old.items))) }
+// As many terms from the top of the stack, or all of a smaller stack. The first is on top.
+fn take_terms(stack: &mut Vec<Term>, count: usize) -> Result<Vec<Term>, AllocError>
+    ensures { IfOk result (λ ts. (terms_of ts.items ≡ firsts count (stack_of stack.old.items)) × (stack_of stack.new.items ≡ drop count (stack_of stack.old.items))) }
 {
-    if count == 0 {
-        return Ok(Terms::Nil);
-    }
-    match stack.pop() {
-        None => Ok(Terms::Nil),
-        Some(t) => {
-            let first = Box::new(heap, t)?;
-            let rest = Box::new(heap, take_terms(heap, stack, count - 1)?)?;
-            Ok(Terms::Cons(first, rest))
-        }
-    }
+    let mut terms = stack.split_off(stack.len().saturating_sub(count))?;
+    terms.reverse();
+    Ok(terms)
 }
 
 // One place in front of the terms that the places behind it make.
-fn grow(
-    heap: Global,
-    symbols: &[Symbol],
-    place: Place,
-    stack: &mut Vec<Term>,
-) -> Result<(), AllocError>
+fn grow(symbols: &[Symbol], place: Place, stack: &mut Vec<Term>) -> Result<(), AllocError>
     ensures { OnOk result (stack_of stack.new.items ≡ grow_terms (signature symbols.now) (place_of place) (stack_of stack.old.items)) }
 {
     let term = match place {
         Place::Variable(v) => Term::Variable(v),
-        Place::Symbol(f) => Term::Symbol(f, take_terms(heap, stack, arity(symbols, f))?),
+        Place::Symbol(f) => Term::Symbol(f, take_terms(stack, arity(symbols, f) as usize)?),
     };
     stack.push(term)?;
     Ok(())
@@ -54,8 +41,8 @@ pub fn forest(heap: Global, symbols: &[Symbol], places: &[Place]) -> Result<Vec<
     ensures { IfOk result (λ v. stack_of v.items ≡ forest_of (signature symbols.now) (map place_of places.now)) }
 {
     let mut stack = Vec::new(heap);
-    for i in (0..places.len()).rev() {
-        grow(heap, symbols, places[i], &mut stack)?;
+    for place in places.iter().rev() {
+        grow(symbols, *place, &mut stack)?;
     }
     Ok(stack)
 }
@@ -68,6 +55,5 @@ pub fn first_term(
 ) -> Result<Option<Term>, AllocError>
     ensures { IfOk result (λ o. option_map term_of o ≡ first (forest_of (signature symbols.now) (map place_of places.now))) }
 {
-    let mut stack = forest(heap, symbols, places)?;
-    Ok(stack.pop())
+    Ok(forest(heap, symbols, places)?.pop())
 }

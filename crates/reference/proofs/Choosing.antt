@@ -1,28 +1,42 @@
 -- A choice among a tree's sites is a place among its redexes. Assumes nothing.
-use Rattle.std.proofs.Common.{◌≡◌, ℕ, suc, ◌+◌, ◌<◌, Bool, true, false, List, [], ◌∷◌, length, get_or, IfSome, Some, None, Option, unwrap_or, sym, refl, ap, ◌∙◌, arith, Bor}
+use Rattle.std.proofs.Common.{◌≡◌, ℕ, suc, ◌+◌, ◌<◌, ◌≤◌, Bool, true, false, List, [], ◌∷◌, map, length, get_or, IfSome, Some, None, Option, unwrap_or, sym, refl, ap, ◌∙◌, arith, Bor}
 use Rattle.std.proofs.lemmas.List.{get_or-map, length-map}
 use Rattle.rewriting.specs.Terms.{Tree}
 use Rattle.rewriting.specs.Cards.{Card}
 use Rattle.rewriting.specs.Runs.{first_from, outermost, is_empty, at_rest, chosen}
 use Rattle.rewriting.specs.Matching.{fitting}
-use Rattle.rewriting.specs.Sites.{Site, redex, keep, site, sites_from, sites, redexes, rule_number, shared_step}
+use Rattle.rewriting.specs.Sites as theory
 use Rattle.rewriting.specs.Subterms.{subterms}
 use Rattle.reference.specs.declared.step.Step.{Step}
+use Rattle.sites.specs.declared.site.Site.{Site}
+use Rattle.sites.specs.Records.{site_of}
 use Rattle.explicit.specs.declared.tree.Tree as declared
 use Rattle.explicit.specs.Meaning.{tree_of, listed}
-use Rattle.reference.specs.Records.{StepsAt, StepsOutermost}
+use Rattle.reference.specs.Records.{StepsOutermost}
 
-as_many : (C : Card) (all : List Tree) (n : ℕ) (xs : List Tree) → length (sites_from C all n xs) ≡ length (keep (redex C) xs)
-as_many C all n [] = refl
-as_many C all n (x ∷ xs) = go (redex C x) (as_many C all (suc n) xs)
+-- the rule that a tree is used by
+abbrev rule_at : Card → Tree → ℕ
+rule_at C t = theory.rule_number (fitting C.rules t)
+
+-- the sites of a list, and its redexes, each with its rule
+rules_listed : (C : Card) (all : List Tree) (n : ℕ) (xs : List Tree)
+    → map (λ (k : theory.Site). k.rule) (theory.sites_from C all n xs) ≡ map (rule_at C) (theory.keep (theory.redex C) xs)
+rules_listed C all n [] = refl
+rules_listed C all n (x ∷ xs) = go (theory.redex C x) (rules_listed C all (suc n) xs)
   where
-    go : (b : Bool) → length (sites_from C all (suc n) xs) ≡ length (keep (redex C) xs)
-        → length {A = Site} (elim b [ true ↦ site C all n x ∷ sites_from C all (suc n) xs | false ↦ sites_from C all (suc n) xs ])
-        ≡ length {A = Tree} (elim b [ true ↦ x ∷ keep (redex C) xs | false ↦ keep (redex C) xs ])
-    go true e = ap suc e
+    go : (b : Bool) → map (λ (k : theory.Site). k.rule) (theory.sites_from C all (suc n) xs) ≡ map (rule_at C) (theory.keep (theory.redex C) xs)
+        → map (λ (k : theory.Site). k.rule) (elim b [ true ↦ theory.site C all n x ∷ theory.sites_from C all (suc n) xs | false ↦ theory.sites_from C all (suc n) xs ])
+        ≡ map (rule_at C) (elim b [ true ↦ x ∷ theory.keep (theory.redex C) xs | false ↦ theory.keep (theory.redex C) xs ])
+    go true e = ap (λ ns. rule_at C x ∷ ns) e
     go false e = e
 
-first_within : (p : Site → Bool) (i : ℕ) (ks : List Site) → IfSome (first_from p i ks) (λ j. j < i + length ks)
+rules_are : (C : Card) (t : Tree) → map (λ (k : theory.Site). k.rule) (theory.sites C t) ≡ map (rule_at C) (theory.redexes C t)
+rules_are C t = rules_listed C (theory.redexes C t) 1 (subterms t)
+
+as_many : (C : Card) (t : Tree) → length (theory.sites C t) ≡ length (theory.redexes C t)
+as_many C t = sym (length-map (theory.sites C t) (λ (k : theory.Site). k.rule)) ∙ ap length (rules_are C t) ∙ length-map (theory.redexes C t) (rule_at C)
+
+first_within : (p : theory.Site → Bool) (i : ℕ) (ks : List theory.Site) → IfSome (first_from p i ks) (λ j. j < i + length ks)
 first_within p i [] = tt
 first_within p i (k ∷ ks) = go (p k) (first_from p (suc i) ks) (first_within p (suc i) ks)
   where
@@ -40,44 +54,65 @@ chosen_within None n pos h = pos
 chosen_within (Some j) n pos h = omega arith
 
 -- where there is a redex, the outermost place is one of the redexes' places
-pub outermost_within : (C : Card) (t : Tree) → 0 < length (redexes C t) → outermost (sites C t) < length (redexes C t)
+outermost_within : (C : Card) (t : Tree) → 0 < length (theory.redexes C t) → outermost (theory.sites C t) < length (theory.redexes C t)
 outermost_within C t pos =
-    let same : length (sites C t) ≡ length (redexes C t) = as_many C (redexes C t) 1 (subterms t) in
-    let within : outermost (sites C t) < length (sites C t) =
-    chosen_within (first_from (λ k. k.outer) 0 (sites C t)) (length (sites C t)) (omega (arith, same)) (first_within (λ k. k.outer) 0 (sites C t)) in
-    omega (arith, same, within)
+    let within : outermost (theory.sites C t) < length (theory.sites C t) =
+    chosen_within (first_from (λ k. k.outer) 0 (theory.sites C t)) (length (theory.sites C t)) (omega (arith, as_many C t)) (first_within (λ k. k.outer) 0 (theory.sites C t)) in
+    omega (arith, as_many C t, within)
 
-module _ (C : Card) (t : Tree) (us : List (Bor declared.Tree)) (all : listed us ≡ redexes C t) where
-  pub place_within : (ks : List Site) (n : ℕ) → 0 < length us → ks ≡ sites C t → n ≡ outermost ks → n < length us
-  place_within ks n pos at is =
-      let same : length (redexes C t) ≡ length us = ap length (sym all) ∙ length-map us (λ u. tree_of u.now) in
-      omega (arith, same, is, ap outermost at, outermost_within C t (omega (arith, same)))
+module _ (C : Card) (t : Tree) (us : List (Bor declared.Tree)) (all : listed us ≡ theory.redexes C t) (ks : List Site) (made : map site_of ks ≡ theory.sites C t)
+    (n : ℕ) (is : n ≡ outermost (map site_of ks)) where
+  pub many_redexes : length us ≡ length (theory.redexes C t)
+  many_redexes = sym (length-map us (λ u. tree_of u.now)) ∙ ap length all
 
-  pub reads_chosen : (ks : List Site) (n : ℕ) (u : Bor declared.Tree) → n < length us → ks ≡ sites C t → n ≡ outermost ks
-      → u ≡ get_or us n u → tree_of u.now ≡ chosen C outermost t
-  reads_chosen ks n u within at is read =
-      ap (λ v. tree_of v.now) read ∙ sym (get_or-map (λ v. tree_of v.now) us n u t within)
-      ∙ ap (λ xs. get_or xs n t) all ∙ ap (λ k. get_or (redexes C t) k t) (is ∙ ap outermost at)
+  many_sites : length ks ≡ length (theory.redexes C t)
+  many_sites = sym (length-map ks site_of) ∙ ap length made ∙ as_many C t
 
-  pub rests : length us ≡ 0 → at_rest C t ≡ true
-  rests none = ap is_empty (sym all) ∙ go us none
+  rests_past : length (theory.redexes C t) ≤ n → at_rest C t ≡ true
+  rests_past past = go (theory.redexes C t) (λ pos. omega (arith, past, is, ap outermost made, outermost_within C t pos))
     where
-      go : (vs : List (Bor declared.Tree)) → length vs ≡ 0 → is_empty (listed vs) ≡ true
-      go [] e = refl
-      go (v ∷ vs) e = absurd (omega arith)
+      go : (xs : List Tree) → (0 < length xs → ⊥) → is_empty xs ≡ true
+      go [] h = refl
+      go (x ∷ xs) h = absurd (h (omega arith))
 
-  pub goes : 0 < length us → at_rest C t ≡ false
-  goes some = ap is_empty (sym all) ∙ go us some
-    where
-      go : (vs : List (Bor declared.Tree)) → 0 < length vs → is_empty (listed vs) ≡ false
-      go [] e = absurd (omega arith)
-      go (v ∷ vs) e = refl
+  pub no_redex : length us ≤ n → at_rest C t ≡ true
+  no_redex past = rests_past (omega (arith, many_redexes))
 
-pub steps_outermost : (C : Card) (t d : Tree) (s : Step) → StepsAt C t d s → d ≡ chosen C outermost t → at_rest C t ≡ false → StepsOutermost C t s
-steps_outermost C t d s at is has =
-    record {
-      has_site = has;
-      redex_is = at.redex_is ∙ is;
-      rule_is = at.rule_is ∙ ap (λ u. rule_number (fitting C.rules u)) is;
-      after_is = at.after_is ∙ ap (λ u. shared_step C u t) is;
-    }
+  pub no_site : length ks ≤ n → at_rest C t ≡ true
+  no_site past = rests_past (omega (arith, many_sites))
+
+  module _ (u : Bor declared.Tree) (k : Site) (within : n < length us) (read : u ≡ get_or us n u) (at : k ≡ get_or ks n k) where
+    pub is_chosen : tree_of u.now ≡ chosen C outermost t
+    is_chosen =
+        ap (λ v. tree_of v.now) read ∙ sym (get_or-map (λ v. tree_of v.now) us n u t within)
+        ∙ ap (λ xs. get_or xs n t) all ∙ ap (λ j. get_or (theory.redexes C t) j t) (is ∙ ap outermost made)
+
+    goes : at_rest C t ≡ false
+    goes = go (theory.redexes C t) (omega (arith, many_redexes))
+      where
+        go : (xs : List Tree) → 0 < length xs → is_empty xs ≡ false
+        go [] h = absurd (omega arith)
+        go (x ∷ xs) h = refl
+
+    rule_is : k.rule ≡ rule_at C (chosen C outermost t)
+    rule_is =
+        ap (λ (s : Site). s.rule) at ∙ sym (get_or-map (λ (s : Site). s.rule) ks n k 0 (omega (arith, many_redexes, many_sites)))
+        ∙ ap (λ ns. get_or ns n 0) (rules ∙ ap (map (λ (s : theory.Site). s.rule)) made ∙ rules_are C t)
+        ∙ get_or-map (rule_at C) (theory.redexes C t) n t 0 (omega (arith, many_redexes))
+        ∙ ap (λ j. rule_at C (get_or (theory.redexes C t) j t)) (is ∙ ap outermost made)
+      where
+        rules : map (λ (s : Site). s.rule) ks ≡ map (λ (s : theory.Site). s.rule) (map site_of ks)
+        rules = go ks
+          where
+            go : (qs : List Site) → map (λ (s : Site). s.rule) qs ≡ map (λ (s : theory.Site). s.rule) (map site_of qs)
+            go [] = refl
+            go (q ∷ qs) = ap (λ ns. q.rule ∷ ns) (go qs)
+
+    pub steps : (s : Step) → s.rule ≡ k.rule → tree_of s.redex ≡ tree_of u.now → tree_of s.after ≡ theory.shared_step C (tree_of u.now) t → StepsOutermost C t s
+    steps s rule redex after =
+        record {
+          has_site = goes;
+          redex_is = redex ∙ is_chosen;
+          rule_is = rule ∙ rule_is;
+          after_is = after ∙ ap (λ v. theory.shared_step C v t) is_chosen;
+        }

@@ -8,12 +8,6 @@ use Rattle.rewriting.specs.Sites as sites
 use Rattle.reference.specs.declared.step.Step.{Step}
 use Rattle.explicit.specs.Meaning.{tree_of}
 
--- the shared step of a tree at one of its redexes
-pub record StepsAt (C : cards.Card) (t redex : theory.Tree) (s : Step) : Type 0 where
-  pub redex_is : tree_of s.redex ≡ redex
-  pub rule_is : s.rule ≡ sites.rule_number (fitting C.rules redex)
-  pub after_is : tree_of s.after ≡ sites.shared_step C redex t
-
 -- a step at the outermost site
 pub record StepsOutermost (C : cards.Card) (t : theory.Tree) (s : Step) : Type 0 where
   pub has_site : at_rest C t ≡ false

@@ -1,15 +1,13 @@
 // One shared step: every occurrence of the chosen redex is replaced by its contractum.
-ghost use Rattle.std.specs.Prelude.{◌≡◌, ◌<◌, length, IfOk};
-ghost use Rattle.explicit.specs.Meaning.{card_of, listed, tree_of, trees_of};
-ghost use Rattle.reference.specs.Records.{Stepped, StepsAt};
-ghost use Rattle.rewriting.specs.Runs.{chosen as chosen_tree, outermost as outermost_place};
-ghost use Rattle.rewriting.specs.Sites.{redexes as redex_list};
-ghost use Rattle.rewriting.specs.Sites.{contractum as contractum_tree, replace as replace_tree, replaces as replace_trees};
+ghost use Rattle.std.specs.Prelude.{◌≡◌, IfOk};
+ghost use Rattle.explicit.specs.Meaning.{card_of, tree_of};
+ghost use Rattle.reference.specs.Records.{Stepped};
+ghost use Rattle.rewriting.specs.Sites.{contractum as contractum_tree, replace as replace_tree};
 
 use explicit::card::Card;
-use explicit::tree::{Tree, Trees, copy, same};
+use explicit::tree::Tree;
 use matching::rule::{contracted, fitting};
-use sites::site::{fitting_number, outermost, redexes, sites};
+use sites::site::{outermost, redexes, sites};
 use std::alloc::{AllocError, Global};
 
 // The number of the rule, the redex that it was used at, and the tree after it.
@@ -26,62 +24,24 @@ pub fn contractum(heap: Global, card: &Card, tree: &Tree) -> Result<Tree, AllocE
 {
     match fitting(&card.rules, tree) {
         Some(rule) => contracted(heap, rule, tree),
-        None => copy(heap, tree),
+        None => tree.clone(),
     }
 }
 
 // Every occurrence of `old` replaced by `new`, which is not looked through again.
-#[cycle(replace_replace_all)]
 pub fn replace(heap: Global, old: &Tree, new: &Tree, tree: &Tree) -> Result<Tree, AllocError>
     ensures { IfOk result (λ u. tree_of u ≡ replace_tree (tree_of old.now) (tree_of new.now) (tree_of tree.now)) }
 {
-    if same(old, tree) {
-        return copy(heap, new);
+    if old == tree {
+        return new.clone();
+    }
+    let mut children = Vec::new(heap);
+    for child in &tree.children {
+        children.push(replace(heap, old, new, child)?)?;
     }
     Ok(Tree {
         symbol: tree.symbol,
-        children: replace_all(heap, old, new, &tree.children)?,
-    })
-}
-
-#[cycle(replace_replace_all)]
-fn replace_all(heap: Global, old: &Tree, new: &Tree, trees: &Trees) -> Result<Trees, AllocError>
-    ensures { IfOk result (λ us. trees_of us ≡ replace_trees (tree_of old.now) (tree_of new.now) (trees_of trees.now)) }
-{
-    match trees {
-        Trees::Nil => Ok(Trees::Nil),
-        Trees::Cons(t, ts) => {
-            let first = Box::new(heap, replace(heap, old, new, t)?)?;
-            let rest = Box::new(heap, replace_all(heap, old, new, ts)?)?;
-            Ok(Trees::Cons(first, rest))
-        }
-    }
-}
-
-// The outermost of the tree's redexes.
-fn chosen<'a>(
-    heap: Global,
-    card: &Card,
-    redexes: &[&'a Tree],
-    tree: &Tree,
-) -> Result<&'a Tree, AllocError>
-    requires all { listed redexes.now ≡ redex_list (card_of card.now) (tree_of tree.now) }
-    requires some { 0 < length redexes.now }
-    ensures { IfOk result (λ u. tree_of u.now ≡ chosen_tree (card_of card.now) outermost_place (tree_of tree.now)) }
-{
-    let sites = sites(heap, card, tree)?;
-    Ok(redexes[outermost(&sites)])
-}
-
-// The shared step at one redex.
-fn step_at(heap: Global, card: &Card, redex: &Tree, tree: &Tree) -> Result<Step, AllocError>
-    ensures { IfOk result (λ s. StepsAt (card_of card.now) (tree_of tree.now) (tree_of redex.now) s) }
-{
-    let by = contractum(heap, card, redex)?;
-    Ok(Step {
-        rule: fitting_number(card, redex),
-        redex: copy(heap, redex)?,
-        after: replace(heap, redex, &by, tree)?,
+        children,
     })
 }
 
@@ -90,9 +50,15 @@ pub fn outermost_step(heap: Global, card: &Card, tree: &Tree) -> Result<Option<S
     ensures { IfOk result (λ s. Stepped (card_of card.now) (tree_of tree.now) s) }
 {
     let redexes = redexes(heap, card, tree)?;
-    if redexes.is_empty() {
+    let sites = sites(heap, card, tree)?;
+    let place = outermost(&sites);
+    let (Some(&redex), Some(site)) = (redexes.get(place), sites.get(place)) else {
         return Ok(None);
-    }
-    let redex = chosen(heap, card, &redexes, tree)?;
-    Ok(Some(step_at(heap, card, redex, tree)?))
+    };
+    let by = contractum(heap, card, redex)?;
+    Ok(Some(Step {
+        rule: site.rule,
+        redex: redex.clone()?,
+        after: replace(heap, redex, &by, tree)?,
+    }))
 }

@@ -1,3 +1,3 @@
-mod Searches
 mod Below
+mod Chains
 mod Collections

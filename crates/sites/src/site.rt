@@ -1,15 +1,15 @@
 // Sites: the redexes among a tree's subterms, as a strategy is shown them.
-ghost use Rattle.std.specs.Prelude.{◌≡◌, not, [], map, IfOk};
-ghost use Rattle.explicit.specs.Meaning.{card_of, listed, tree_of, trees_of};
+ghost use Rattle.std.specs.Prelude.{◌≡◌, not, map, IfOk};
+ghost use Rattle.explicit.specs.Meaning.{card_of, listed, tree_of};
 ghost use Rattle.sites.specs.Records.{site_of};
 ghost use Rattle.rewriting.specs.Matching.{fitting as fitting_rule};
 ghost use Rattle.rewriting.specs.Runs.{outermost as outermost_place};
-ghost use Rattle.rewriting.specs.Sites.{any, keep, proper, redex, rule_number};
+ghost use Rattle.rewriting.specs.Sites.{any, keep, proper, redex};
 ghost use Rattle.rewriting.specs.Sites.{redexes as redex_list, sites as site_list, sites_from};
-ghost use Rattle.rewriting.specs.Subterms.{member, walk, walks};
+ghost use Rattle.std.specs.Option.{option_map};
 
 use explicit::card::Card;
-use explicit::tree::{Tree, Trees, same};
+use explicit::tree::Tree;
 use listing::subterm::subterms;
 use matching::rule::fitting;
 use std::alloc::{AllocError, Global};
@@ -25,14 +25,11 @@ pub struct Site {
     pub inner: bool,
 }
 
-// The number of the first rule that fits, or 0.
-pub fn fitting_number(card: &Card, tree: &Tree) -> u16
-    ensures { result ≡ rule_number (fitting_rule (card_of card.now).rules (tree_of tree.now)) }
+// The number of the first rule that fits, if any does.
+pub fn fitting_number(card: &Card, tree: &Tree) -> Option<u16>
+    ensures { result ≡ option_map (λ r. r.number) (fitting_rule (card_of card.now).rules (tree_of tree.now)) }
 {
-    match fitting(&card.rules, tree) {
-        Some(rule) => rule.number,
-        None => 0,
-    }
+    fitting(&card.rules, tree).map(|rule| rule.number)
 }
 
 fn is_redex(card: &Card, tree: &Tree) -> bool
@@ -48,13 +45,10 @@ fn redexes_among<'a>(
 ) -> Result<Vec<&'a Tree>, AllocError>
     ensures { IfOk result (λ v. listed v.items ≡ keep (redex (card_of card.now)) (listed list.now)) }
 {
-    let mut found = Vec::new(heap);
-    for x in list {
-        if is_redex(card, x) {
-            found.push(*x)?;
-        }
-    }
-    Ok(found)
+    list.iter()
+        .copied()
+        .filter(|tree| is_redex(card, tree))
+        .collect(heap)
 }
 
 // The subterms of the tree that are redexes, in sheet order.
@@ -65,47 +59,30 @@ pub fn redexes<'a>(heap: Global, card: &Card, tree: &'a Tree) -> Result<Vec<&'a 
     redexes_among(heap, card, &order)
 }
 
-// Whether the tree is a subterm of the other one, or is that one itself.
-#[cycle(is_below_is_within)]
-fn is_within(tree: &Tree, whole: &Tree) -> bool
-    ensures { result ≡ member (tree_of tree.now) (walk (tree_of whole.now) []) }
+// Whether the tree is a proper subterm of the other one.
+fn is_below(tree: &Tree, whole: &Tree) -> bool
+    ensures { result ≡ proper (tree_of tree.now) (tree_of whole.now) }
 {
-    same(tree, whole) || is_below(tree, &whole.children)
-}
-
-// Whether the tree is a subterm of one of the trees.
-#[cycle(is_below_is_within)]
-fn is_below(tree: &Tree, trees: &Trees) -> bool
-    ensures { result ≡ member (tree_of tree.now) (walks (trees_of trees.now) []) }
-{
-    match trees {
-        Trees::Nil => false,
-        Trees::Cons(t, ts) => is_within(tree, t) || is_below(tree, ts),
+    for child in &whole.children {
+        if tree == child || is_below(tree, child) {
+            return true;
+        }
     }
+    false
 }
 
 // Whether the tree is a proper subterm of none of the redexes.
 fn is_outer(tree: &Tree, redexes: &[&Tree]) -> bool
     ensures { result ≡ not (any (λ u. proper (tree_of tree.now) u) (listed redexes.now)) }
 {
-    for x in redexes {
-        if is_below(tree, &x.children) {
-            return false;
-        }
-    }
-    true
+    !redexes.iter().any(|redex| is_below(tree, redex))
 }
 
 // Whether none of the redexes is a proper subterm of the tree.
 fn is_inner(tree: &Tree, redexes: &[&Tree]) -> bool
     ensures { result ≡ not (any (λ u. proper u (tree_of tree.now)) (listed redexes.now)) }
 {
-    for x in redexes {
-        if is_below(x, &tree.children) {
-            return false;
-        }
-    }
-    true
+    !redexes.iter().any(|redex| is_below(redex, tree))
 }
 
 fn sites_among(
@@ -118,10 +95,10 @@ fn sites_among(
 {
     let mut sites = Vec::new(heap);
     for (i, x) in order.iter().enumerate() {
-        if is_redex(card, x) {
+        if let Some(rule) = fitting_number(card, x) {
             sites.push(Site {
                 number: i + 1,
-                rule: fitting_number(card, x),
+                rule,
                 outer: is_outer(x, redexes),
                 inner: is_inner(x, redexes),
             })?;
@@ -143,10 +120,5 @@ pub fn sites(heap: Global, card: &Card, tree: &Tree) -> Result<Vec<Site>, AllocE
 pub fn outermost(sites: &[Site]) -> usize
     ensures { result ≡ outermost_place (map site_of sites.now) }
 {
-    for (i, site) in sites.iter().enumerate() {
-        if site.outer {
-            return i;
-        }
-    }
-    0
+    sites.iter().position(|site| site.outer).unwrap_or(0)
 }

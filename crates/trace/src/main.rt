@@ -63,7 +63,7 @@ fn rewrite(rt: &HostRuntime, card: &Card, recipe: Tree) -> anyhow::Result<Tree> 
 
 // A row's line: its number, its symbol's name and its children's numbers.
 fn row_line(heap: Global, symbols: &[Symbol], number: usize, row: &Row) -> anyhow::Result<String> {
-    let symbol = str::from_utf8(name(symbols, row.symbol))?;
+    let symbol = name(symbols, row.symbol);
     let mut line = format!(in heap; "{number} {symbol}")?;
     for child in &row.children {
         let child = *child;

@@ -1,17 +1,15 @@
-use Rattle.explicit.specs.Meaning.{tree_of}
-use Rattle.listing.proofs.Searches.{place_here, place_later, place_ends}
+use Rattle.std.proofs.Common.{sym, ap, ◌∙◌, rules, tests, suc, length, not, add-one}
+use Rattle.std.specs.List.{position_or_len}
+use Rattle.std.proofs.lemmas.List.Sums.{prefix_len-le-length}
+use Rattle.std.proofs.lemmas.Iterator.{YieldsList-from_slice}
+use Rattle.std.proofs.lemmas.Iterator.Search.{position_from_yields_List}
+use Rattle.explicit.specs.contracts.tree.TreePartialEq.TheImpl.{ghosts}
+use Rattle.listing.proofs.Searches.{place_is, place_or_length}
 use Rattle.listing.proofs.sheet.number_of.Goals as goal
-
-pub returns-then-same : goal.returns-then-same
-returns-then-same c =
-    place_here (tree_of c.args.tree.now) c.args.order.now c.loop-i.i c.index-order-i.result
-    c.loop-i-test.true c.index-order-i.is c.if-same.ensures c.loop-i.invariant
-
-pub loop-i-preserved : goal.loop-i-preserved
-loop-i-preserved c =
-    place_later (tree_of c.args.tree.now) c.args.order.now c.loop-i.i c.index-order-i.result
-    c.loop-i-test.true c.index-order-i.is c.if-same.ensures c.loop-i.invariant
 
 pub returns : goal.returns
 returns c =
-    place_ends (tree_of c.args.tree.now) c.args.order.now c.loop-i.i c.loop-i-test.false c.loop-i.auto.i-end c.loop-i.invariant
+    let t = c.args.tree.now in
+    let us = c.args.order.now in
+    let found = position_from_yields_List (λ u. ghosts.eq u.now t) _ _ c.position-place.result c.position-place.ensures.ran (YieldsList-from_slice us cc) (λ x b q k. search (rules, tests)) in
+    add-one _ ∙ ap suc (c.unwrap_or.ensures ∙ place_or_length (position_or_len (λ u. ghosts.eq u.now t) us) (length us) found (prefix_len-le-length (λ u. not (ghosts.eq u.now t)) us) ∙ sym (place_is t us))

@@ -1,13 +1,16 @@
-use Rattle.std.proofs.Common.{vec_items}
+use Rattle.std.proofs.Common.{map, ◌∙◌}
+use Rattle.std.proofs.lemmas.Iterator.Adapters.{YieldsList-from_rev_slice}
+use Rattle.std.proofs.lemmas.Iterator.Consumers.{YieldsList-end}
 use Rattle.explicit.specs.Meaning.{signature}
-use Rattle.notation.proofs.Stacks.{forest_none, forest_more}
+use Rattle.notation.proofs.Stacks.{forest_more, forest_all}
 use Rattle.notation.proofs.place.forest.Goals as goal
 
-pub loop-i-init : goal.loop-i-init
-loop-i-init c =
-    forest_none (signature c.args.symbols.now) c.args.places.now (vec_items c.new-stack.result) c.new-stack.ensures.items
+pub loop-place-preserved : goal.loop-place-preserved
+loop-place-preserved c =
+    forest_more (signature c.args.symbols.now) c.loop-place.yielded c.in-Some.place c.loop-place.stack.items c.grow.new.stack.items
+    c.loop-place.invariant c.in_ok-grow.ensures
 
-pub loop-i-preserved : goal.loop-i-preserved
-loop-i-preserved c =
-    forest_more (signature c.args.symbols.now) c.args.places.now c.loop-i.i _ (vec_items c.loop-i.stack) (vec_items c.grow.new.stack)
-    c.loop-i-test.true c.loop-i.auto.i c.in_ok-grow.ensures c.loop-i.invariant
+pub returns : goal.returns
+returns c =
+    let ends = YieldsList-end (YieldsList-from_rev_slice c.args.places.now cc) c.loop-place.yielded _ c.loop-place.yielded_by _ _ c.in-None.is c.next.ensures.steps in
+    c.loop-place.invariant ∙ forest_all (signature c.args.symbols.now) c.args.places.now (map (λ p. p.now) c.loop-place.yielded) ends.0

@@ -1,21 +1,14 @@
-use Rattle.std.proofs.Common.{not, ap}
-use Rattle.rewriting.specs.Sites as theory
-use Rattle.explicit.specs.Meaning.{listed, tree_of}
-use Rattle.explicit.proofs.Loops.{ends}
-use Rattle.sites.proofs.Searches.{any_here, any_later}
+use Rattle.std.proofs.Common.{not, ap, ◌∙◌, rules, tests}
+use Rattle.std.proofs.lemmas.Iterator.{YieldsList-from_slice}
+use Rattle.std.proofs.lemmas.Iterator.Search.{any_from_yields_List}
+use Rattle.rewriting.specs.Terms.{Tree}
+use Rattle.rewriting.specs.Sites.{proper}
+use Rattle.explicit.specs.Meaning.{tree_of}
+use Rattle.sites.proofs.Chains.{any_is}
 use Rattle.sites.proofs.site.is_inner.Goals as goal
-
-pub returns-then-is_below : goal.returns-then-is_below
-returns-then-is_below c =
-    any_here (λ u. theory.proper u (tree_of c.args.tree.now)) c.args.redexes.now c.loop-x.x-index c.x-item.result
-    c.loop-x-test.true c.x-item.is c.if-is_below.ensures c.loop-x.invariant
-
-pub loop-x-preserved : goal.loop-x-preserved
-loop-x-preserved c =
-    any_later (λ u. theory.proper u (tree_of c.args.tree.now)) c.args.redexes.now c.loop-x.x-index c.x-item.result
-    c.loop-x-test.true c.x-item.is c.if-is_below.ensures c.loop-x.invariant
 
 pub returns : goal.returns
 returns c =
-    ap not (ends (λ us. theory.any (λ u. theory.proper u (tree_of c.args.tree.now)) (listed us))
-    c.args.redexes.now c.loop-x.x-index c.loop-x-test.false c.loop-x.invariant)
+    let p = λ (u : Tree). proper u (tree_of c.args.tree.now) in
+    ap not (any_from_yields_List (λ u. p (tree_of u.now)) _ _ c.any.result c.any.ensures.ran (YieldsList-from_slice c.args.redexes.now cc) (λ x b q k. search (rules, tests))
+    ∙ any_is p c.args.redexes.now)
