@@ -1,5 +1,6 @@
 // The card and the recipe that the program is given, as explicit terms.
-use anyhow::anyhow;
+use anyhow::Context;
+use card::name::letters;
 use card::record;
 use card::record::{RuleRecord, SymbolRecord};
 use explicit::card::{Card, Rule, Symbol};
@@ -13,58 +14,41 @@ use std::{fs, str};
 // The bytes of card.txt; a card that is not there counts as empty.
 pub fn card_text(rt: &HostRuntime) -> anyhow::Result<Vec<u8>> {
     match fs::read(rt, "card.txt") {
-        Ok(text) => Ok(text),
-        Err(error) => {
-            if error.kind() == ErrorKind::NotFound {
-                return Ok(Vec::new(rt.alloc()));
-            }
-            Err(error.into())
-        }
+        Err(error) if error.kind() == ErrorKind::NotFound => Ok(Vec::new(rt.alloc())),
+        read => Ok(read?),
     }
-}
-
-// How many bytes stand before the first such byte.
-fn before(text: &[u8], end: u8) -> usize {
-    for (i, b) in text.iter().enumerate() {
-        if *b == end {
-            return i;
-        }
-    }
-    text.len()
 }
 
 // Standard input up to its first byte 10.
 pub fn recipe_text(rt: &HostRuntime) -> anyhow::Result<Vec<u8>> {
     let mut text = Vec::new(rt.alloc());
     rt.stdin().read_to_end(&mut text)?;
-    let length = before(&text, b'\n');
-    text.truncate(length);
+    if let Some(end) = text.iter().position(|b| *b == b'\n') {
+        text.truncate(end);
+    }
     Ok(text)
 }
 
-fn places(heap: Global, side: &[record::Place]) -> Result<Vec<Place>, AllocError> {
-    let mut places = Vec::new(heap);
-    for place in side {
-        match *place {
-            record::Place::Empty => {}
-            record::Place::Symbol(f) => places.push(Place::Symbol(f))?,
-            record::Place::Variable(v) => places.push(Place::Variable(v))?,
-        }
+// The place of an explicit term, where the record has one.
+fn place(place: record::Place) -> Option<Place> {
+    match place {
+        record::Place::Empty => None,
+        record::Place::Symbol(f) => Some(Place::Symbol(f)),
+        record::Place::Variable(v) => Some(Place::Variable(v)),
     }
-    Ok(places)
+}
+
+fn places(heap: Global, side: &[record::Place]) -> Result<Vec<Place>, AllocError> {
+    side.iter().copied().filter_map(place).collect(heap)
 }
 
 fn term(heap: Global, symbols: &[Symbol], side: &[record::Place]) -> anyhow::Result<Term> {
-    match first_term(heap, symbols, &places(heap, side)?)? {
-        Some(term) => Ok(term),
-        None => Err(anyhow!("a term without places")),
-    }
+    first_term(heap, symbols, &places(heap, side)?)?.context("a term without places")
 }
 
 fn symbol(heap: Global, record: &SymbolRecord) -> anyhow::Result<Symbol> {
-    let name = record.name.get(0..before(&record.name, 0)).unwrap_or(&[]);
     Ok(Symbol {
-        name: String::from_str(heap, str::from_utf8(name)?)?,
+        name: String::from_str(heap, str::from_utf8(letters(&record.name))?)?,
         arity: record.arity,
     })
 }
@@ -79,9 +63,9 @@ fn symbols(heap: Global, records: &[SymbolRecord]) -> anyhow::Result<Vec<Symbol>
 
 fn rules(heap: Global, symbols: &[Symbol], records: &[RuleRecord]) -> anyhow::Result<Vec<Rule>> {
     let mut rules = Vec::new(heap);
-    for (i, record) in records.iter().enumerate() {
+    for (number, record) in (1..u16::MAX).zip(records) {
         rules.push(Rule {
-            number: u16::try_from(i)?.saturating_add(1),
+            number,
             left: term(heap, symbols, &record.left)?,
             right: term(heap, symbols, &record.right)?,
         })?;
@@ -102,8 +86,5 @@ pub fn card(
 
 // The tree of a recipe's places.
 pub fn recipe(heap: Global, symbols: &[Symbol], side: &[record::Place]) -> anyhow::Result<Tree> {
-    match ground(heap, &term(heap, symbols, side)?)? {
-        Some(tree) => Ok(tree),
-        None => Err(anyhow!("a variable in the recipe")),
-    }
+    ground(heap, &term(heap, symbols, side)?)?.context("a variable in the recipe")
 }

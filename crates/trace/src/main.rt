@@ -5,24 +5,23 @@
 
 mod input;
 
-use card::record::{Place, RuleRecord, SymbolRecord};
-use card::refusal::Refusal;
+use card::record::{RuleRecord, SymbolRecord};
+use cardreader::fault::CardFault;
 use cardreader::reader::read_card;
 use explicit::card::{Card, Symbol, name};
 use explicit::tree::Tree;
 use listing::sheet::{Row, sheet};
 use notation::text::line_of;
-use reading::recipe::read_recipe;
+use reading::owned::read_owned_recipe;
 use reference::step::{Step, outermost_step};
 use std::alloc::Global;
-use std::str;
 
 const BUDGET: u32 = 1000;
 
 // The tree's text, marked where it was cut.
 fn text_of(heap: Global, symbols: &[Symbol], tree: &Tree) -> anyhow::Result<String> {
     let line = line_of(heap, symbols, tree)?;
-    let mut text = String::from_str(heap, str::from_utf8(&line.bytes)?)?;
+    let mut text = String::from_utf8(line.bytes)?;
     if line.cut {
         text.push_str(" (cut)")?;
     }
@@ -47,61 +46,54 @@ fn print_step(
 fn rewrite(rt: &HostRuntime, card: &Card, recipe: Tree) -> anyhow::Result<Tree> {
     let heap = rt.alloc();
     let mut tree = recipe;
-    let mut count = 0;
-    while let Some(step) = outermost_step(heap, card, &tree)? {
-        if count == BUDGET {
-            println!(rt; "spent {count}")?;
+    for count in 0..BUDGET {
+        let Some(step) = outermost_step(heap, card, &tree)? else {
+            println!(rt; "normal {count}")?;
             return Ok(tree);
-        }
-        count += 1;
-        print_step(rt, &card.symbols, count, &step)?;
+        };
+        print_step(rt, &card.symbols, count + 1, &step)?;
         tree = step.after;
     }
-    println!(rt; "normal {count}")?;
+    let stop = match outermost_step(heap, card, &tree)? {
+        Some(_) => "spent",
+        None => "normal",
+    };
+    println!(rt; "{stop} {BUDGET}")?;
     Ok(tree)
 }
 
 // A row's line: its number, its symbol's name and its children's numbers.
-fn row_line(heap: Global, symbols: &[Symbol], number: usize, row: &Row) -> anyhow::Result<String> {
+fn push_row(text: &mut String, symbols: &[Symbol], number: usize, row: &Row) -> anyhow::Result<()> {
     let symbol = name(symbols, row.symbol);
-    let mut line = format!(in heap; "{number} {symbol}")?;
+    write!(text, "{number} {symbol}")?;
     for child in &row.children {
-        let child = *child;
-        line.push_str(&format!(in heap; " {child}")?)?;
+        write!(text, " {child}")?;
     }
-    Ok(line)
+    text.push_str("\n")?;
+    Ok(())
 }
 
 // Prints the sheet, and where its last line, the root's, begins.
 fn print_sheet(rt: &HostRuntime, symbols: &[Symbol], rows: &[Row]) -> anyhow::Result<()> {
-    let heap = rt.alloc();
-    let mut text = String::new(heap);
+    let mut text = String::new(rt.alloc());
     let mut top = 0;
     for (i, row) in rows.iter().enumerate() {
         top = text.len();
-        text.push_str(&row_line(heap, symbols, i + 1, row)?)?;
-        text.push_str("\n")?;
+        push_row(&mut text, symbols, i + 1, row)?;
     }
     let root = rows.len();
     println!(rt; "{text}top {root} at {top}")?;
     Ok(())
 }
 
-fn print_refusal(rt: &HostRuntime, refusal: Refusal, line: usize) -> anyhow::Result<()> {
-    let number = refusal.number();
-    println!(rt; "refused {number} line {line}")?;
-    Ok(())
-}
-
 // Reads the recipe on an accepted card, and rewrites it.
 fn run(rt: &HostRuntime, records: &[SymbolRecord], card: &Card) -> anyhow::Result<()> {
     let heap = rt.alloc();
-    let mut places = [Place::Empty; 4096];
-    let count = match read_recipe(&input::recipe_text(rt)?, records, &mut places) {
-        Ok(count) => count,
-        Err(refusal) => return print_refusal(rt, refusal, 0),
+    let recipe = match read_owned_recipe(&input::recipe_text(rt)?, records) {
+        Ok(recipe) => recipe,
+        Err(refusal) => return Ok(rt.println(CardFault::from(refusal))?),
     };
-    let recipe = input::recipe(heap, &card.symbols, &places[0..count])?;
+    let recipe = input::recipe(heap, &card.symbols, recipe.places())?;
     rt.println(text_of(heap, &card.symbols, &recipe)?)?;
     let tree = rewrite(rt, card, recipe)?;
     let rows = sheet(heap, &tree)?;
@@ -110,23 +102,14 @@ fn run(rt: &HostRuntime, records: &[SymbolRecord], card: &Card) -> anyhow::Resul
 
 fn main(rt: HostRuntime) -> anyhow::Result<()> {
     let mut buffer = [0; 16384];
-    let mut symbols = [SymbolRecord {
-        name: [0; 12],
-        arity: 0,
-    }; 64];
-    let mut rules = [RuleRecord {
-        left: [Place::Empty; 32],
-        right: [Place::Empty; 32],
-    }; 64];
+    let mut symbols = [SymbolRecord::default(); 64];
+    let mut rules = [RuleRecord::default(); 64];
     let text = input::card_text(&rt)?;
-    match read_card(&text, &mut buffer, &mut symbols, &mut rules) {
-        Ok(counts) => {
-            let symbol_count = counts.symbols;
-            let rule_count = counts.rules;
-            let records = &symbols[0..symbol_count];
-            let card = input::card(rt.alloc(), records, &rules[0..rule_count])?;
-            run(&rt, records, &card)
-        }
-        Err(fault) => print_refusal(&rt, fault.refusal, fault.line),
-    }
+    let counts = match read_card(&text, &mut buffer, &mut symbols, &mut rules) {
+        Ok(counts) => counts,
+        Err(fault) => return Ok(rt.println(fault)?),
+    };
+    let records = &symbols[..counts.symbols];
+    let card = input::card(rt.alloc(), records, &rules[..counts.rules])?;
+    run(&rt, records, &card)
 }
