@@ -16,7 +16,7 @@ fn is_blank(b: u8) -> bool
     matches!(b, b' ' | b'\t')
 }
 
-// The bytes of a text that are kept.
+// The bytes of a text that are kept. What is kept hangs on the bytes before, so this is an iterator of its own and no filter.
 #[derive(Drop)]
 struct Kept<'a> {
     text: &'a [u8],

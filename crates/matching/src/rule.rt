@@ -12,7 +12,8 @@ use explicit::term::Term;
 use explicit::tree::Tree;
 use std::alloc::{AllocError, Global};
 
-// A left side that is held against a tree.
+// A left side that is held against a tree. Its methods go down both by loops: a closure that calls its own function again needs
+// a contract of its own, so a chain would be no plainer.
 #[derive(Clone, Copy)]
 pub struct Candidate<'a> {
     pub left: &'a Term,

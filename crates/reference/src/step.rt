@@ -18,7 +18,7 @@ pub struct Step {
     pub after: Tree,
 }
 
-// A redex by the first rule that fits, and any other tree as it is.
+// A redex by the first rule that fits, and any other tree as it is. Each arm can fail, which no method of `Option` takes.
 pub fn contractum(heap: Global, card: &Card, tree: &Tree) -> Result<Tree, AllocError>
     ensures { IfOk result (λ u. tree_of u ≡ contractum_tree (card_of card.now) (tree_of tree.now)) }
 {

@@ -14,6 +14,7 @@ use listing::subterm::subterms;
 use matching::rule::fitting;
 use std::alloc::{AllocError, Global};
 
+// The two flags are facts by themselves: no value hangs on them.
 #[derive(Clone, Copy)]
 pub struct Site {
     // The redex's place in sheet order, from 1.
@@ -59,7 +60,8 @@ pub fn redexes<'a>(heap: Global, card: &Card, tree: &'a Tree) -> Result<Vec<&'a 
     redexes_among(heap, card, &order)
 }
 
-// Whether the tree is a proper subterm of the other one.
+// Whether the tree is a proper subterm of the other one. A loop, since a closure that calls its own function again needs a
+// contract of its own.
 fn is_below(tree: &Tree, whole: &Tree) -> bool
     ensures { result ≡ proper (tree_of tree.now) (tree_of whole.now) }
 {

@@ -54,10 +54,8 @@ fn rewrite(rt: &HostRuntime, card: &Card, recipe: Tree) -> anyhow::Result<Tree> 
         print_step(rt, &card.symbols, count + 1, &step)?;
         tree = step.after;
     }
-    let stop = match outermost_step(heap, card, &tree)? {
-        Some(_) => "spent",
-        None => "normal",
-    };
+    let at_rest = outermost_step(heap, card, &tree)?.is_none();
+    let stop = if at_rest { "normal" } else { "spent" };
     println!(rt; "{stop} {BUDGET}")?;
     Ok(tree)
 }
@@ -86,7 +84,8 @@ fn print_sheet(rt: &HostRuntime, symbols: &[Symbol], rows: &[Row]) -> anyhow::Re
     Ok(())
 }
 
-// Reads the recipe on an accepted card, and rewrites it.
+// Reads the recipe on an accepted card, and rewrites it. A refusal is an answer of the program and no error, so `?` does not
+// pass it on, here or in `main`.
 fn run(rt: &HostRuntime, records: &[SymbolRecord], card: &Card) -> anyhow::Result<()> {
     let heap = rt.alloc();
     let recipe = match read_owned_recipe(&input::recipe_text(rt)?, records) {
