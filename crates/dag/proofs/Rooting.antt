@@ -1,8 +1,8 @@
 -- Roots of a table: the trees that they hold, walking from them, their new numbers. Assumes nothing.
-use Rattle.std.proofs.Common.{◌≡◌, ℕ, zero, suc, ◌<◌, ◌≤◌, true, List, [], ◌∷◌, ◌++◌, map, length, get_or, set, Some, None, Option, sym, refl, ap, ◌∙◌, subst, ap₂, ⊎_elim, arith}
+use Rattle.std.proofs.Common.{◌≡◌, ℕ, zero, suc, ◌<◌, ◌≤◌, true, List, [], ◌∷◌, ◌++◌, map, length, get_or, Some, None, Option, sym, refl, ap, ◌∙◌, subst, ap₂, arith}
 use Rattle.std.specs.List.{AllByRecursion, flat_map}
-use Rattle.std.proofs.lemmas.List.{get_or_append_left, get_or-set_other, get_or-set_same, length-set, map-set}
-use Rattle.std.proofs.lemmas.Bool.{cases_eq, lt-ltb, ltb-true}
+use Rattle.std.proofs.lemmas.List.{get_or_append_left}
+use Rattle.std.proofs.lemmas.Bool.{lt-ltb, ltb-true}
 use Rattle.rewriting.specs.Terms.{Tree, cons}
 use Rattle.rewriting.specs.Subterms.{in_first, in_rest, self, SubtermIn}
 use Rattle.dag.specs.Roots.{held, held_trees, in_use, root_trees, RootsInUse}
@@ -40,16 +40,6 @@ root_there ts (o ∷ os) zero k h e = subst (λ x. SubtermIn (tree_at ts k) (roo
 root_there ts (None ∷ os) (suc i) k h e = root_there ts os i k (omega arith) e
 root_there ts (Some x ∷ os) (suc i) k h e = in_rest (root_there ts os i k (omega arith) e)
 
--- ROOTS OF A TABLE THAT HAS GROWN
-
--- one root is set to a record in use
-pub roots_set : (roots : List (Option ℕ)) (i k n m : ℕ) → n ≤ m → k < m → RootsInUse n roots → RootsInUse m (set roots i (Some k))
-roots_set roots i k n m l h inside j b =
-    let len = length-set roots i (Some k) in
-    ⊎_elim
-    (λ e. ap (in_use m) (ap (λ x. get_or (set roots i (Some k)) x None) e ∙ get_or-set_same roots i (Some k) None (omega arith)) ∙ lt-ltb k m h)
-    (λ e. ap (in_use m) (get_or-set_other roots i j (Some k) None e) ∙ in_use_more n m (get_or roots j None) l (inside j (omega arith))) (cases_eq j i)
-
 held_more : (ts us : List Tree) (o : Option ℕ) → in_use (length ts) o ≡ true → held (ts ++ us) o ≡ held ts o
 held_more ts us None h = refl
 held_more ts us (Some k) h = ap Some (get_or_append_left ts us blank_tree k (ltb-true k (length ts) h))
@@ -58,9 +48,3 @@ held_more ts us (Some k) h = ap Some (get_or_append_left ts us blank_tree k (ltb
 pub held_front : (ts us : List Tree) (roots : List (Option ℕ)) → RootsInUse (length ts) roots → held_trees (ts ++ us) roots ≡ held_trees ts roots
 held_front ts us [] inside = refl
 held_front ts us (o ∷ os) inside = ap₂ ◌∷◌ (held_more ts us o (inside 0 (omega arith))) (held_front ts us os (λ i h. inside (suc i) (omega arith)))
-
--- one root holds another tree, and the others what they held
-pub held_set : (ts us : List Tree) (roots : List (Option ℕ)) (i k : ℕ) → RootsInUse (length ts) roots
-    → held_trees (ts ++ us) (set roots i (Some k)) ≡ set (held_trees ts roots) i (Some (tree_at (ts ++ us) k))
-held_set ts us roots i k inside =
-    map-set (held (ts ++ us)) roots i (Some k) ∙ ap (λ os. set os i (Some (tree_at (ts ++ us) k))) (held_front ts us roots inside)

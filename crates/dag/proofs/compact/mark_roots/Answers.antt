@@ -1,4 +1,4 @@
-use Rattle.std.proofs.Common.{◌≡◌, ◌<◌, ℕ, map, drop, true, false, List, [], Some, None, Option, length, get_or, sym, refl, ap, ◌∙◌, subst, arith, rules}
+use Rattle.std.proofs.Common.{◌≡◌, ◌<◌, ℕ, map, drop, true, false, List, [], Some, None, Option, length, get_or, sym, ap, ◌∙◌, subst, arith, rules}
 use Rattle.std.specs.Borrow.{Bor}
 use Rattle.std.specs.Iterator.{AlwaysYields}
 use Rattle.std.specs.Iterator.Adapters.{option_iter_done, option_iter_item, option_iter_steps}
@@ -6,7 +6,6 @@ use Rattle.std.specs.declared.option.Iter.{OptionIter}
 use Rattle.std.proofs.lemmas.Iterator.{YieldsList, YieldsList-from_slice}
 use Rattle.std.proofs.lemmas.Iterator.Adapters.{YieldsList-from_flatten}
 use Rattle.std.proofs.lemmas.Iterator.Consumers.{YieldsList-turn, YieldsList-end}
-use Rattle.std.proofs.ByRecursion.{All-get_or}
 use Rattle.std.proofs.lemmas.List.{get_or_default, length_push}
 use Rattle.rewriting.specs.Subterms.{walk, walks}
 use Rattle.rewriting.specs.Terms.{Tree}
@@ -16,7 +15,7 @@ use Rattle.dag.specs.Tables.{trees}
 use Rattle.dag.specs.Trees.{from_list, tree_at}
 use Rattle.dag.specs.Walking.{walked_list}
 use Rattle.dag.specs.Walks.{listed, Walked}
-use Rattle.dag.proofs.Rooting.{root_record, root_records, root_records_used, roots_over}
+use Rattle.dag.proofs.Rooting.{root_record, root_records, roots_over}
 use Rattle.dag.proofs.Visiting.{child_visited, children_visited}
 use Rattle.dag.proofs.compact.mark_roots.Goals as goal
 use Rattle.dag.proofs.compact.mark_roots.Goals.{In-Some, In-None}
@@ -33,20 +32,6 @@ next c = YieldsList-turn (YieldsList-from_flatten _ _ (λ (y : Bor ℕ). y.now) 
 
 done : (c : In-None) → length c.loop-at.yielded ≡ length (root_records c.args.roots.now)
 done c = (YieldsList-end (YieldsList-from_flatten _ _ (λ (y : Bor ℕ). y.now) root_record (λ x j b. root_yields x.now j (search rules) (search rules)) (YieldsList-from_slice c.args.roots.now (cc)) (cc) (cc) (cc)) c.loop-at.yielded _ c.loop-at.yielded_by _ _ c.in-None.is c.next.ensures.steps).1
-
-pub visit-requires : goal.visit-requires
-visit-requires c =
-    let h = c.loop-at.invariant in
-    let k = next (goal.at.visit-requires c).In-Some in
-    let used = All-get_or (λ k. k < c.args.table.now.count) (root_records c.args.roots.now) (length c.loop-at.yielded) c.in-Some.at.now k.0 (root_records_used c.args.table.now.count c.args.roots.now c.requires.roots) in
-    record { inside = omega (arith, k.1, ap (λ x. x.now.count) (h.0.table ∙ c.new-walk.ensures.table)); walking = h.1 }
-
-pub loop-at-init : goal.loop-at-init
-loop-at-init c = (
-  record { table = refl; marks = refl; order = refl },
-  c.new-walk.ensures.walking,
-  ap (walks (from_list (map (tree_at (trees c.args.table.now)) (root_records c.args.roots.now)))) c.new-walk.ensures.listed,
-)
 
 pub loop-at-preserved : goal.loop-at-preserved
 loop-at-preserved c =
