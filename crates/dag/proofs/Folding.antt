@@ -30,11 +30,6 @@ pub length_trees : (rows : List Row) (n : ℕ) → n ≤ length rows → length 
 unfolding table_trees
 length_trees rows n h = length_add_rows [] (take n rows) ∙ omega (arith, length-take-le n rows h)
 
--- the trees of the first n rows depend on these alone
-pub trees_of_front : (rows rows' : List Row) (n : ℕ) → take n rows ≡ take n rows' → table_trees rows n ≡ table_trees rows' n
-unfolding table_trees
-trees_of_front rows rows' n e = ap (add_rows []) e
-
 -- one row more appends one tree
 pub trees_more : (rows : List Row) (i : ℕ) → i < length rows
     → table_trees rows (i + 1) ≡ table_trees rows i ++ (row_tree (table_trees rows i) (get_or rows i blank) ∷ [])

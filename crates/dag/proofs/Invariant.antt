@@ -62,10 +62,6 @@ first_row_found t n over (Some k) h =
     let l : k < t.count = omega (arith, h.0) in
     (l, tree_of_row rows t.count t.valid k l ∙ ap (row_tree (trees t)) (sym (get_or-take t.count rows k blank l) ∙ h.1 blank))
 
--- the same trees, as many records; more trees, more records
-pub same_count : (before after : Table) → trees after ≡ trees before → after.count ≡ before.count
-same_count before after e = sym (one_tree_each after) ∙ (ap length e ∙ one_tree_each before)
-
 pub count_grows : (before after : Table) (added : List Tree) → trees after ≡ trees before ++ added → before.count ≤ after.count
 count_grows before after added e =
     omega (arith, one_tree_each before, one_tree_each after, ap length e, length-append (trees before) added)

@@ -1,11 +1,12 @@
 -- Roots of a table: the trees that they hold, walking from them, their new numbers. Assumes nothing.
-use Rattle.std.proofs.Common.{◌≡◌, ℕ, zero, suc, ◌+◌, ◌<◌, ◌≤◌, true, List, [], ◌∷◌, ◌++◌, length, get_or, drop, set, Some, None, Option, sym, refl, ap, ◌∙◌, subst, ap₂, ⊎_elim, arith}
-use Rattle.std.proofs.lemmas.List.{at_drop_all, at_drop_more, get_or_append_left, get_or-set_other, get_or-set_same, length-set, map-set}
-use Rattle.std.proofs.lemmas.Bool.{cases_eq, lt-ltb, ltb-true}
-use Rattle.rewriting.specs.Terms.{Tree}
-use Rattle.rewriting.specs.Subterms.{in_first, in_rest, self, SubtermIn, walk, walks}
+use Rattle.std.proofs.Common.{◌≡◌, ℕ, zero, suc, ◌<◌, ◌≤◌, true, List, [], ◌∷◌, ◌++◌, map, length, get_or, Some, None, Option, sym, refl, ap, ◌∙◌, subst, ap₂, arith}
+use Rattle.std.specs.List.{AllByRecursion, flat_map}
+use Rattle.std.proofs.lemmas.List.{get_or_append_left}
+use Rattle.std.proofs.lemmas.Bool.{lt-ltb, ltb-true}
+use Rattle.rewriting.specs.Terms.{Tree, cons}
+use Rattle.rewriting.specs.Subterms.{in_first, in_rest, self, SubtermIn}
 use Rattle.dag.specs.Roots.{held, held_trees, in_use, root_trees, RootsInUse}
-use Rattle.dag.specs.Trees.{blank_tree, tree_at}
+use Rattle.dag.specs.Trees.{blank_tree, from_list, tree_at}
 
 pub root_below : (n k : ℕ) (o : Option ℕ) → o ≡ Some k → in_use n o ≡ true → k < n
 root_below n k o e h = ltb-true k n (ap (in_use n) (sym e) ∙ h)
@@ -14,26 +15,23 @@ pub in_use_more : (n m : ℕ) (o : Option ℕ) → n ≤ m → in_use n o ≡ tr
 in_use_more n m None l h = refl
 in_use_more n m (Some k) l h = lt-ltb k m (omega (arith, ltb-true k n h))
 
--- a walk from one root
-abbrev walk_root : List Tree → Option ℕ → List Tree → List Tree
-walk_root ts None xs = xs
-walk_root ts (Some k) xs = walk (tree_at ts k) xs
+-- the records of the roots that are there
+abbrev pub root_record : Option ℕ → List ℕ
+root_record None = []
+root_record (Some k) = k ∷ []
 
-walk_first_root : (ts : List Tree) (o : Option ℕ) (os : List (Option ℕ)) (xs : List Tree) → walks (root_trees ts (o ∷ os)) xs ≡ walks (root_trees ts os) (walk_root ts o xs)
-walk_first_root ts None os xs = refl
-walk_first_root ts (Some k) os xs = refl
+abbrev pub root_records : List (Option ℕ) → List ℕ
+root_records roots = flat_map root_record roots
 
-pub root_walked : (ts : List Tree) (roots : List (Option ℕ)) (i : ℕ) (xs ys end : List Tree) (o : Option ℕ) → i < length roots → get_or roots i None ≡ o
-    → walks (root_trees ts (drop i roots)) xs ≡ end → ys ≡ walk_root ts o xs → walks (root_trees ts (drop (i + 1) roots)) ys ≡ end
-root_walked ts roots i xs ys end o l e h w =
-    ap (walks (root_trees ts (drop (i + 1) roots))) (w ∙ ap (λ x. walk_root ts x xs) (sym e))
-    ∙ (sym (at_drop_more (λ os. walks (root_trees ts os) xs) roots i None l ∙ walk_first_root ts (get_or roots i None) (drop (i + 1) roots) xs) ∙ h)
+pub roots_over : (ts : List Tree) (roots : List (Option ℕ)) → root_trees ts roots ≡ from_list (map (tree_at ts) (root_records roots))
+roots_over ts [] = refl
+roots_over ts (None ∷ roots) = roots_over ts roots
+roots_over ts (Some k ∷ roots) = ap (cons (tree_at ts k)) (roots_over ts roots)
 
-pub roots_walked : (ts : List Tree) (roots : List (Option ℕ)) (i : ℕ) (xs end : List Tree) → length roots ≤ i
-    → walks (root_trees ts (drop i roots)) xs ≡ end → xs ≡ end
-roots_walked ts roots i xs end l h =
-    let stop : walks (root_trees ts (drop i roots)) xs ≡ xs = at_drop_all (λ os. walks (root_trees ts os) xs) roots i l in
-    sym stop ∙ h
+pub root_records_used : (n : ℕ) (roots : List (Option ℕ)) → RootsInUse n roots → AllByRecursion (λ k. k < n) (root_records roots)
+root_records_used n [] used = tt
+root_records_used n (None ∷ roots) used = root_records_used n roots (λ i h. used (suc i) (omega arith))
+root_records_used n (Some k ∷ roots) used = (ltb-true k n (used 0 (omega arith)), root_records_used n roots (λ i h. used (suc i) (omega arith)))
 
 -- a root's tree is one of the roots' trees
 pub root_there : (ts : List Tree) (roots : List (Option ℕ)) (i k : ℕ) → i < length roots → get_or roots i None ≡ Some k → SubtermIn (tree_at ts k) (root_trees ts roots)
@@ -41,16 +39,6 @@ root_there ts [] i k h e = absurd (omega arith)
 root_there ts (o ∷ os) zero k h e = subst (λ x. SubtermIn (tree_at ts k) (root_trees ts (x ∷ os))) (sym e) (in_first (self refl))
 root_there ts (None ∷ os) (suc i) k h e = root_there ts os i k (omega arith) e
 root_there ts (Some x ∷ os) (suc i) k h e = in_rest (root_there ts os i k (omega arith) e)
-
--- ROOTS OF A TABLE THAT HAS GROWN
-
--- one root is set to a record in use
-pub roots_set : (roots : List (Option ℕ)) (i k n m : ℕ) → n ≤ m → k < m → RootsInUse n roots → RootsInUse m (set roots i (Some k))
-roots_set roots i k n m l h inside j b =
-    let len = length-set roots i (Some k) in
-    ⊎_elim
-    (λ e. ap (in_use m) (ap (λ x. get_or (set roots i (Some k)) x None) e ∙ get_or-set_same roots i (Some k) None (omega arith)) ∙ lt-ltb k m h)
-    (λ e. ap (in_use m) (get_or-set_other roots i j (Some k) None e) ∙ in_use_more n m (get_or roots j None) l (inside j (omega arith))) (cases_eq j i)
 
 held_more : (ts us : List Tree) (o : Option ℕ) → in_use (length ts) o ≡ true → held (ts ++ us) o ≡ held ts o
 held_more ts us None h = refl
@@ -60,9 +48,3 @@ held_more ts us (Some k) h = ap Some (get_or_append_left ts us blank_tree k (ltb
 pub held_front : (ts us : List Tree) (roots : List (Option ℕ)) → RootsInUse (length ts) roots → held_trees (ts ++ us) roots ≡ held_trees ts roots
 held_front ts us [] inside = refl
 held_front ts us (o ∷ os) inside = ap₂ ◌∷◌ (held_more ts us o (inside 0 (omega arith))) (held_front ts us os (λ i h. inside (suc i) (omega arith)))
-
--- one root holds another tree, and the others what they held
-pub held_set : (ts us : List Tree) (roots : List (Option ℕ)) (i k : ℕ) → RootsInUse (length ts) roots
-    → held_trees (ts ++ us) (set roots i (Some k)) ≡ set (held_trees ts roots) i (Some (tree_at (ts ++ us) k))
-held_set ts us roots i k inside =
-    map-set (held (ts ++ us)) roots i (Some k) ∙ ap (λ os. set os i (Some (tree_at (ts ++ us) k))) (held_front ts us roots inside)

@@ -17,10 +17,8 @@ fn mark_roots(table: &Table, roots: &[Option<u16>], marks: &mut [u8], order: &mu
     ensures { RootsWalked (trees table.now) roots.now marks.new order.new }
 {
     let mut walk = Walk::new(table, marks, order);
-    for root in roots {
-        if let Some(at) = root {
-            walk.visit(*at as usize);
-        }
+    for at in roots.iter().flatten() {
+        walk.visit(*at as usize);
     }
 }
 
@@ -47,6 +45,7 @@ fn renumber_roots(roots: &mut [Option<u16>], numbers: &[u16])
     ensures { (i : ℕ) → i < length roots.old
         → slice_index_or roots.new i None ≡ renumber_root numbers.now (slice_index_or roots.old i None) }
 {
+    // a proof does not know what is written through `iter_mut().flatten()`
     for root in roots.iter_mut() {
         if let Some(at) = *root {
             *root = Some(numbers[at as usize]);

@@ -1,9 +1,8 @@
 -- Two records have equal trees exactly if they are one record. Assumes nothing.
-use Rattle.std.proofs.Common.{◌≡◌, ℕ, ◌<◌, Bool, true, false, eqb, get_or, Some, None, Ok, Err, Option, sym, refl, ap, ◌∙◌, ap₂, ⊎_elim, arith}
+use Rattle.std.proofs.Common.{◌≡◌, ℕ, ◌<◌, Bool, true, false, eqb, get_or, Some, None, Ok, Option, sym, refl, ap, ◌∙◌, ap₂, ⊎_elim, arith}
 use Rattle.std.proofs.lemmas.Bool.{cases_eq, eq-eqb, ne_eqb}
-use Rattle.rewriting.specs.Terms.{Tree, same}
+use Rattle.rewriting.specs.Terms.{same}
 use Rattle.rewriting.proofs.Equality.{same_eq, same_refl}
-use Rattle.card.specs.declared.refusal.Refusal.TheVariants.{EmptyTin}
 use Rattle.dag.specs.declared.table.Table.{Table}
 use Rattle.dag.specs.Roots.{held}
 use Rattle.dag.specs.Tables.{trees}
@@ -34,16 +33,6 @@ module _ (t : Tins) (left right : ℕ) (h : left < 16) (k : right < 16) where
       let l = tin_there left h in
       let r = tin_there right k in
       rw (l, same_result) (rw r (ap₂ compared (tin_held t left h ∙ ap (held (trees t.table)) (sym e)) (tin_held t right k ∙ ap (held (trees t.table)) (sym f))))
-
-  compared_empty : (o : Option Tree) → compared o None ≡ Err EmptyTin
-  compared_empty None = refl
-  compared_empty (Some u) = refl
-
-  pub left_empty : None ≡ get_or t.roots left None → same_result (tin_trees t) left right ≡ Err EmptyTin
-  left_empty e = told None (get_or t.roots right None) e refl
-
-  pub right_empty : None ≡ get_or t.roots right None → same_result (tin_trees t) left right ≡ Err EmptyTin
-  right_empty e = told (get_or t.roots left None) None refl e ∙ compared_empty (held (trees t.table) (get_or t.roots left None))
 
   pub both_there : (x y : ℕ) → x < t.table.count → y < t.table.count → Some x ≡ get_or t.roots left None → Some y ≡ get_or t.roots right None
       → same_result (tin_trees t) left right ≡ Ok (eqb x y)

@@ -15,5 +15,4 @@ pub mod Numbering
 pub mod Printed
 pub mod Behind
 pub mod Listed
-pub mod Sheeted
 pub mod StoreLaws

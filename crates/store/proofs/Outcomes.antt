@@ -1,21 +1,17 @@
 -- The results of calls by their cases. Assumes nothing.
-use Rattle.std.proofs.Common.{◌≡◌, ℕ, ◌<◌, ◌≤◌, true, false, List, length, get_or, take, set, Some, None, Ok, Err, Option, Result, sym, ap, ◌∙◌}
+use Rattle.std.proofs.Common.{◌≡◌, ℕ, ◌<◌, ◌≤◌, true, List, length, get_or, take, set, Some, None, Ok, Err, Option, Result, sym, ap, ◌∙◌}
 use Rattle.std.specs.Option.{ok_or}
 use Rattle.std.proofs.lemmas.List.{take_all}
-use Rattle.std.proofs.lemmas.Bool.{lt-ltb, le-ltb}
+use Rattle.std.proofs.lemmas.Bool.{lt-ltb}
 use Rattle.rewriting.specs.Terms.{Tree}
 use Rattle.card.specs.declared.record.Place.{Place}
 use Rattle.card.specs.declared.record.SymbolRecord.{SymbolRecord}
 use Rattle.card.specs.declared.refusal.Refusal.{Refusal}
-use Rattle.card.specs.declared.refusal.Refusal.TheVariants.{EmptyTin}
 use Rattle.reading.specs.Recipes.{recipe}
 use Rattle.store.specs.Results.{Held, is_tin, clear_result, copied, copy_result, put_read, put_result}
 
 pub tin_there : (tin : ℕ) → tin < 16 → is_tin tin ≡ true
 tin_there tin h = lt-ltb tin 16 h
-
-pub no_tin : (tin : ℕ) → 16 ≤ tin → is_tin tin ≡ false
-no_tin tin h = le-ltb tin 16 h
 
 -- why a call is refused that asks for what is not there
 pub refused : {T : Type 0} (o : Option T) (f g : Refusal) → o ≡ None → Err f ≡ ok_or o g → f ≡ g
@@ -27,9 +23,6 @@ clear_done tins after tin h e = let t = tin_there tin h in rw (t, clear_result) 
 module _ (tins : Held) (target source : ℕ) (h : target < 16) (k : source < 16) where
   copy_there : copy_result tins target source ≡ copied tins target (get_or tins source None)
   copy_there = let t = tin_there target h in let s = tin_there source k in rw (t, copy_result) (rw s)
-
-  pub copy_empty : get_or tins source None ≡ None → copy_result tins target source ≡ Err EmptyTin
-  copy_empty e = copy_there ∙ ap (copied tins target) e
 
   pub copy_done : (after : Held) (t : Tree) → get_or tins source None ≡ Some t → after ≡ set tins target (Some t) → copy_result tins target source ≡ Ok after
   copy_done after t e d = copy_there ∙ (ap (copied tins target) e ∙ ap Ok (sym d))

@@ -35,10 +35,3 @@ few_children ss few f a e =
     let same = sym (arity_there ss f blank_symbol h) ∙ e in
     let k : (get_or ss f blank_symbol).arity ≡ a = cc in
     subst (λ n. n ≤ 4) k (few f h)
-
--- whatever is read past the end
-pub few_any : (ss : List SymbolRecord) (f : ℕ) (d : SymbolRecord) → f < length ss → (get_or ss f blank_symbol).arity ≤ 4 → (get_or ss f d).arity ≤ 4
-few_any ss f d h few =
-    let same = sym (arity_there ss f blank_symbol h) ∙ arity_there ss f d h in
-    let k : (get_or ss f blank_symbol).arity ≡ (get_or ss f d).arity = cc in
-    omega arith

@@ -17,8 +17,7 @@ fn suits(memory: &Memory) -> bool
     ensures { Decides result (Suits memory.now) }
 {
     let n = memory.nodes.len();
-    16 <= n
-        && n <= 4096
+    (16..=4096).contains(&n)
         && memory.marks.len() == n
         && memory.order.len() == n
         && memory.numbers.len() == n

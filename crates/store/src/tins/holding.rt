@@ -9,7 +9,6 @@ ghost use Rattle.dag.specs.Tables.{capacity, Full, Interned, KeepsRecords, node_
 use crate::tins::Tins;
 use card::record::Place;
 use dag::build::build;
-use dag::compact::compact;
 use dag::node::Node;
 use dag::signature::Signature;
 
@@ -29,13 +28,7 @@ impl Tins {
         ensures compacted { Compacted (trees self.old.table) (slice_set self.old.roots tin root) (trees self.new.table) self.new.roots }
     {
         self.roots[tin] = root;
-        compact(
-            &mut self.table,
-            &mut self.roots,
-            self.marks.as_mut_slice(),
-            self.order.as_mut_slice(),
-            self.numbers.as_mut_slice(),
-        );
+        self.work.compact(&mut self.table, &mut self.roots);
     }
 
     // The record of the tree that places spell, which is built if it is not there.

@@ -1,5 +1,5 @@
 // The records of a tree's subterms as the lines of its sheet.
-ghost use Rattle.std.specs.Prelude.{◌≡◌, ◌+◌, ◌*◌, ◌<◌, ◌≤◌, ◌++◌, length, take, drop, MatchOption, slice_index_or};
+ghost use Rattle.std.specs.Prelude.{◌≡◌, ◌+◌, ◌*◌, ◌<◌, ◌≤◌, ◌++◌, length, take, drop, MatchOption, slice_index, slice_index_or};
 ghost use Rattle.card.specs.Records.{blank_symbol};
 ghost use Rattle.sheet.specs.Texts.{bytes_of, PutAtFront};
 ghost use Rattle.store.specs.Printing.{Ready};
@@ -46,12 +46,12 @@ impl Listing<'_> {
     ghost use Rattle.store.specs.Listings.{line_in, lines_in, text_in};
 
     // The text of the line of the record at a place.
-    fn line(&self, place: usize) -> Text
-        requires { place < length self.now.order.now }
+    fn line(&self, place: usize, at: u16) -> Text
+        requires inside { place < length self.now.order.now }
+        requires there { at ≡ slice_index self.now.order.now place }
         ensures { bytes_of result ≡ line_in self.now place }
     {
-        let node = self.table.node(self.order[place] as usize);
-        let node = node.renumbered(self.numbers);
+        let node = self.table.node(at as usize).renumbered(self.numbers);
         let name = name_at(self.symbols, node.symbol());
         let line = Line {
             number: (place + 1) as u16,
@@ -68,8 +68,8 @@ impl Listing<'_> {
         ensures few { result ≤ 48 * count }
     {
         let mut sum = 0;
-        for place in 0..count {
-            sum += self.line(place).as_bytes().len();
+        for (place, at) in self.order[..count].iter().enumerate() {
+            sum += self.line(place, *at).as_bytes().len();
         }
         sum
     }
@@ -80,8 +80,8 @@ impl Listing<'_> {
         ensures { PutAtFront (lines_in self.now (length self.now.order.now)) result out.old out.new }
     {
         let mut end = 0;
-        for place in 0..self.order.len() {
-            end = put_behind(&self.line(place), out, end);
+        for (place, at) in self.order.iter().enumerate() {
+            end = put_behind(&self.line(place, *at), out, end);
         }
         end
     }
@@ -95,7 +95,7 @@ impl Listing<'_> {
     {
         let last = self.order.len() - 1;
         let place = self.length(last);
-        let line = self.line(last);
+        let line = self.line(last, self.order[last]);
         let foot = trailer(self.order.len() as u16, place);
         if out.len() < place + line.as_bytes().len() + foot.as_bytes().len() {
             return None;

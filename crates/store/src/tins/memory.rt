@@ -5,7 +5,7 @@ ghost use Rattle.store.specs.Memories.{AsLong, Wiped};
 
 use crate::memory::Memory;
 use crate::tins::Tins;
-use dag::marks::wipe;
+use crate::tins::work::WorkTables;
 use dag::table::Table;
 
 impl Tins {
@@ -18,21 +18,16 @@ impl Tins {
     {
         let Memory {
             nodes,
-            mut marks,
+            marks,
             order,
             numbers,
         } = memory;
         match Table::new(nodes) {
-            Ok(table) => {
-                wipe(marks.as_mut_slice());
-                Ok(Tins {
-                    table,
-                    roots: [None; 16],
-                    marks,
-                    order,
-                    numbers,
-                })
-            }
+            Ok(table) => Ok(Tins {
+                table,
+                roots: [None; 16],
+                work: WorkTables::new(marks, order, numbers),
+            }),
             Err(nodes) => Err(Memory {
                 nodes,
                 marks,
@@ -49,15 +44,8 @@ impl Tins {
         let Tins {
             table,
             roots: _,
-            marks,
-            order,
-            numbers,
+            work,
         } = self;
-        Memory {
-            nodes: table.into_rows(),
-            marks,
-            order,
-            numbers,
-        }
+        work.into_memory(table.into_rows())
     }
 }

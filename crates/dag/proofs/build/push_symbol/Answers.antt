@@ -1,22 +1,11 @@
-use Rattle.std.proofs.Common.{◌≡◌, ◌<◌, take, sym, ◌∙◌, subst, arith}
-use Rattle.std.specs.List.{AllByRecursion}
-use Rattle.std.proofs.ByRecursion.{All-take}
+use Rattle.std.proofs.Common.{◌≡◌, take, ◌∙◌, subst}
 use Rattle.rewriting.specs.Terms.{node}
 use Rattle.dag.specs.Stacks.{records_on, stack_trees}
 use Rattle.dag.specs.Tables.{Full, Interned, node_tree, trees}
 use Rattle.dag.specs.Trees.{from_list}
-use Rattle.dag.proofs.Shapes.{children_each}
 use Rattle.dag.proofs.Stacking.{over_top, pushed}
 use Rattle.dag.proofs.build.push_symbol.Goals as goal
 use Rattle.dag.proofs.build.push_symbol.Goals.{In_ok-node}
-
-pub intern-requires : goal.intern-requires
-intern-requires c =
-    let n = c.in_ok-node.node in
-    let ks = records_on c.args.stack.now in
-    let count = c.args.table.now.count in
-    children_each count n.row (omega (arith, n.few, n.four))
-    (subst (AllByRecursion (λ k. k < count)) (sym (c.in_ok-node.ensures.1 ∙ c.topmost.ensures)) (All-take (λ k. k < count) c.args.arity ks c.requires.records))
 
 -- the node's tree is the symbol over the topmost trees
 over : (c : In_ok-node) → node_tree c.args.table.now c.in_ok-node.node ≡ node c.args.symbol (from_list (take c.args.arity (stack_trees (trees c.args.table.now) c.args.stack.now)))

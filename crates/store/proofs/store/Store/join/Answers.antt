@@ -1,4 +1,4 @@
-use Rattle.std.proofs.Common.{◌<◌, ◌≤◌, [], length, Some, None, Err, sym, refl, ap, ◌∙◌, subst, arith}
+use Rattle.std.proofs.Common.{◌<◌, ◌≤◌, length, Some, None, Err, sym, refl, ap, ◌∙◌, subst}
 use Rattle.std.proofs.lemmas.Result.{err_from_is_err_and}
 use Rattle.rewriting.specs.Terms.{node}
 use Rattle.rewriting.specs.Subterms.{walk}
@@ -13,7 +13,6 @@ use Rattle.store.proofs.Filled.{filled_tins, placed_done, placed_refused}
 use Rattle.store.proofs.Joining.{full_no_room, interned_fits, interned_front, join_on, join_told, joined_right, joined_wrong, over, same_compact, same_on, sources_empty, sources_there, takes_others, takes_these}
 use Rattle.store.proofs.Outcomes.{refused}
 use Rattle.store.proofs.Placing.{AllOn, set_on}
-use Rattle.store.proofs.Signatures.{few_any}
 use Rattle.store.proofs.store.Store.join.Goals as goal
 
 pub returns-then-not-all_filled : goal.returns-then-not-all_filled
@@ -65,15 +64,6 @@ returns-then-self-symbol c =
         record { same_roots = refl; same_trees = refl; same_records = refl },
       );
     }
-
-pub returns-in_err-node : goal.returns-in_err-node
-returns-in_err-node c =
-    let before = c.args.self.now in
-    let f = c.in_ok-symbol.symbol in
-    let inside = (rw c.in_ok-symbol.ensures.ok_part at c.find_symbol.ensures.within) in
-    let few = few_any before.symbols.now f (record { name = []; arity = 0 }) inside (before.few f inside) in
-    let many = rw c.in_err-node.ensures.ok_part at c.node_over-node.ensures in
-    absurd (omega (arith, c.if-self-symbol.false))
 
 pub invariant_of-self-2 : goal.invariant_of-self-2
 invariant_of-self-2 c =

@@ -1,7 +1,5 @@
-use Rattle.std.proofs.Common.{◌≤◌, length, take, vec_len, refl, ap, arith, length-take}
+use Rattle.std.proofs.Common.{◌≤◌, length, take, vec_len, refl, arith, length-take}
 use Rattle.card.specs.Records.{arities}
-use Rattle.dag.specs.Roots.{held_trees}
-use Rattle.dag.specs.Tables.{trees}
 use Rattle.store.proofs.Opening.{few_arities, ok_kept, fresh_compact, fresh_on}
 use Rattle.store.proofs.store.Store.open.Goals as goal
 
@@ -19,16 +17,4 @@ invariant_of-result c =
       few = few_arities (take n ss) each;
       compact = fresh_compact c.in_ok-tins.tins (vec_len c.args.memory.nodes) fresh;
       card = fresh_on (arities (take n ss)) c.in_ok-tins.tins (vec_len c.args.memory.nodes) fresh;
-    }
-
-pub returns : goal.returns
-returns c =
-    let fresh = ok_kept c.new.result c.map_err.result c.in_ok-tins.tins _ _ _ c.map_err.ensures.cases c.in_ok-tins.was c.new.ensures in
-    record {
-      suits = c.if-not-suits.ensures.0 refl;
-      kept = c.if-not-keeps_rules.ensures.0 refl;
-      symbols = refl;
-      rules = refl;
-      empty = ap (held_trees (trees c.in_ok-tins.tins.table)) fresh.no_roots;
-      room = fresh.as_many;
     }

@@ -10,10 +10,7 @@ invariant_of-self g c =
     let same = sym c.build.ensures.capacity in
     let grows = build_grows before.table c.build.new.table (spelled_tree (g.S.Signature.arities c.args.signature.now) (trees before.table) [] c.args.places.now) c.build.result c.build.ensures.cases in
     record {
-      marks_long = before.marks_long ∙ same;
-      order_long = before.order_long ∙ same;
-      numbers_long = before.numbers_long ∙ same;
-      clear = before.clear;
+      long = before.long ∙ same;
       sixteen = before.sixteen;
       used = used_more before.table.count c.build.new.table.count before.roots grows before.used;
     }

@@ -9,10 +9,7 @@ invariant_of-self c =
     let same = sym c.intern.ensures.capacity in
     let grows = intern_grows before.table c.intern.new.self (node_tree before.table c.args.node) c.intern.result c.intern.ensures.cases in
     record {
-      marks_long = before.marks_long ∙ same;
-      order_long = before.order_long ∙ same;
-      numbers_long = before.numbers_long ∙ same;
-      clear = before.clear;
+      long = before.long ∙ same;
       sixteen = before.sixteen;
       used = used_more before.table.count c.intern.new.self.count before.roots grows before.used;
     }

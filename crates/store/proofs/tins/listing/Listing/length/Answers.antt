@@ -10,7 +10,7 @@ pub loop-place-preserved : goal.loop-place-preserved
 loop-place-preserved c =
     let l = c.args.self.now in
     let text = c.line.result in
-    let more = lines_longer (name_of l.symbols.now) l.table.now l.order.now c.loop-place.place c.as_bytes.result.now (omega arith) (c.as_bytes.ensures ∙ c.line.ensures) in
+    let more = lines_longer (name_of l.symbols.now) l.table.now l.order.now c.loop-place.place c.as_bytes.result.now (omega (arith, length-take c.args.count l.order.now)) (c.as_bytes.ensures ∙ c.line.ensures) in
     let short = length-take text.count text.bytes in
     let same = ap length c.as_bytes.ensures in
     (omega (arith, c.loop-place.invariant.0, more), omega (arith, c.loop-place.invariant.1, same, short, text.few))
