@@ -89,6 +89,7 @@ pub fn build<S: Signature>(
 {
     let old = table.count();
     let mut stack = Stack::new(stack);
+    // no `?`: with no room the table has to be put back first
     for place in places.iter().rev() {
         let Some(()) = push_place(table, signature, *place, bindings, &mut stack) else {
             table.truncate(old);

@@ -54,6 +54,7 @@ fn renumber_roots(roots: &mut [Option<u16>], numbers: &[u16])
 }
 
 // Keeps one record for each distinct subterm of the roots' trees, and no other. The order table and `numbers` are work space.
+// Marks and work tables are lent one by one, as here and to a walk, since they belong to whoever calls.
 pub fn compact(
     table: &mut Table,
     roots: &mut [Option<u16>],

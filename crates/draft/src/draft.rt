@@ -12,6 +12,8 @@ use reading::rule::read_rule_line;
 use reading::source::Source;
 use reading::symbol::read_symbol_line;
 
+// The two tables come as two parameters and not as one value: each call says by their types which of them it may write.
+
 // A draft that takes symbol lines.
 pub struct SymbolDraft {
     symbols: usize,

@@ -53,7 +53,7 @@ fn read_rules(
     }
 }
 
-// Both phases. Here too the draft is spent on each way out.
+// Both phases, on the two tables of the call. Here too the draft is spent on each way out.
 pub fn read_lines(
     draft: SymbolDraft,
     symbols: &mut [SymbolRecord],

@@ -1,4 +1,5 @@
-// Hash-consing: one record for each distinct tree. The search goes through the rows in use, with no index beside them.
+// Hash-consing: one record for each distinct tree. The search goes through the rows in use, with no index beside them. That a
+// node is over records of a table is said of the two at each call, since a type for it would borrow the table.
 ghost use mathlib.Core.List.{Memᴰ};
 ghost use Rattle.std.specs.Prelude.{◌≡◌, MatchOption};
 ghost use Rattle.dag.specs.Tables.{capacity, Full, Holds, Interned, KeepsRecords, node_tree, OverRecords, trees};

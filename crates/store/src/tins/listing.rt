@@ -30,7 +30,8 @@ fn name_at(symbols: &[SymbolRecord], symbol: u8) -> [u8; 12]
     record.name
 }
 
-// Writes a text into a buffer from a place on, and answers where it ends.
+// Writes a text into a buffer from a place on, and answers where it ends. The place stands beside the buffer since the texts
+// behind one another have to leave what is behind them as it is.
 fn put_behind(text: &Text, out: &mut [u8], at: usize) -> usize
     requires { at + length (bytes_of text.now) ≤ length out.old }
     ensures end { result ≡ at + length (bytes_of text.now) }

@@ -9,7 +9,8 @@ use crate::tins::work::WorkTables;
 use dag::table::Table;
 
 impl Tins {
-    // Empty tins over these tables, which come back as they were if there are more than 4,096 rows.
+    // Empty tins over these tables, which come back as they were if there are more than 4,096 rows. Both ways use up the other
+    // three, so a `match` and no `map_err`.
     pub(crate) fn new(memory: Memory) -> Result<Tins, Memory>
         requires { AsLong memory }
         ensures { MatchResult result
