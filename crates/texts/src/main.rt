@@ -9,7 +9,24 @@ use card::record::{Card, RuleRecord, SymbolRecord};
 use cardreader::fault::CardFault;
 use cardreader::reader::read_card;
 use reading::owned::read_owned_recipe;
-use std::io::Read;
+use std::fmt;
+use std::io::{self, Read};
+
+// What was read: a card with its counts, or a recipe with the number of its places.
+#[derive(Clone, Copy)]
+enum Answer {
+    Card(Card),
+    Recipe(usize),
+}
+
+impl fmt::Display for Answer {
+    fn fmt<W: fmt::Write>(&self, f: &mut fmt::Formatter<W>) -> fmt::Result {
+        match self {
+            Answer::Card(Card { symbols, rules }) => write!(f, "card {symbols} {rules}"),
+            Answer::Recipe(places) => write!(f, "recipe {places}"),
+        }
+    }
+}
 
 // What a card text is read into, and the card that was read last.
 #[derive(Drop)]
@@ -30,41 +47,24 @@ impl Tables {
         }
     }
 
-    // Both outcomes are printed, here and below, so there is nothing for `?` to pass on.
-    fn print_card(&mut self, rt: &HostRuntime, text: &[u8]) -> anyhow::Result<()> {
+    fn read_card(&mut self, text: &[u8]) -> Result<Answer, CardFault> {
         self.card = Card::default();
-        match read_card(text, &mut self.buffer, &mut self.symbols, &mut self.rules) {
-            Ok(card) => {
-                self.card = card;
-                let Card { symbols, rules } = card;
-                println!(rt; "card {symbols} {rules}")?;
-            }
-            Err(fault) => println!(rt; "{fault}")?,
-        }
-        Ok(())
+        self.card = read_card(text, &mut self.buffer, &mut self.symbols, &mut self.rules)?;
+        Ok(Answer::Card(self.card))
     }
 
-    fn print_recipe(&self, rt: &HostRuntime, text: &[u8]) -> anyhow::Result<()> {
+    fn read_recipe(&self, text: &[u8]) -> Result<Answer, CardFault> {
         let symbols = self.symbols.get(..self.card.symbols).unwrap_or(&[]);
-        match read_owned_recipe(text, symbols) {
-            Ok(recipe) => {
-                let places = recipe.places().len();
-                println!(rt; "recipe {places}")?;
-            }
-            Err(refusal) => {
-                let fault = CardFault::from(refusal);
-                println!(rt; "{fault}")?;
-            }
-        }
-        Ok(())
+        let recipe = read_owned_recipe(text, symbols)?;
+        Ok(Answer::Recipe(recipe.places().len()))
     }
+}
 
-    fn print_answer(&mut self, rt: &HostRuntime, text: &[u8]) -> anyhow::Result<()> {
-        match text.split_first() {
-            Some((b'c', card)) => self.print_card(rt, card),
-            Some((_, recipe)) => self.print_recipe(rt, recipe),
-            None => Ok(()),
-        }
+// Both outcomes are answers of the program, so there is nothing for `?` to pass on.
+fn print_answer(rt: &HostRuntime, answer: Result<Answer, CardFault>) -> io::Result<()> {
+    match answer {
+        Ok(answer) => rt.println(answer),
+        Err(fault) => rt.println(fault),
     }
 }
 
@@ -72,8 +72,13 @@ impl Tables {
 fn print_answers(rt: &HostRuntime, input: &[u8]) -> anyhow::Result<()> {
     let mut tables = Tables::blank();
     for text in input.split_inclusive(|b| *b == 0) {
-        if let Some(text) = text.strip_suffix(&[0]) {
-            tables.print_answer(rt, text)?;
+        let Some(text) = text.strip_suffix(&[0]) else {
+            continue;
+        };
+        match text.split_first() {
+            Some((b'c', card)) => print_answer(rt, tables.read_card(card))?,
+            Some((_, recipe)) => print_answer(rt, tables.read_recipe(recipe))?,
+            None => {}
         }
     }
     Ok(())

@@ -5,14 +5,15 @@
 
 mod input;
 
-use card::record::{RuleRecord, SymbolRecord};
+use card::record::{self, RuleRecord, SymbolRecord};
+use card::refusal::Refusal;
 use cardreader::fault::CardFault;
 use cardreader::reader::read_card;
 use explicit::card::{Card, Symbol, name};
 use explicit::tree::Tree;
 use listing::sheet::{Row, sheet};
 use notation::text::line_of;
-use reading::owned::read_owned_recipe;
+use reading::owned::{Recipe, read_owned_recipe};
 use reference::step::{Step, outermost_step};
 use std::alloc::Global;
 
@@ -84,14 +85,46 @@ fn print_sheet(rt: &HostRuntime, symbols: &[Symbol], rows: &[Row]) -> anyhow::Re
     Ok(())
 }
 
-// Reads the recipe on an accepted card, and rewrites it. A refusal is an answer of the program and no error, so `?` does not
-// pass it on, here or in `main`.
-fn run(rt: &HostRuntime, records: &[SymbolRecord], card: &Card) -> anyhow::Result<()> {
+// Why the program has nothing to rewrite: a refusal, which is an answer, or an error of reading.
+#[derive(Drop)]
+enum Stop {
+    Refused(CardFault),
+    Failed(anyhow::Error),
+}
+
+impl From<CardFault> for Stop {
+    fn from(fault: CardFault) -> Stop {
+        Stop::Refused(fault)
+    }
+}
+
+impl From<Refusal> for Stop {
+    fn from(refusal: Refusal) -> Stop {
+        Stop::Refused(refusal.into())
+    }
+}
+
+impl From<anyhow::Error> for Stop {
+    fn from(error: anyhow::Error) -> Stop {
+        Stop::Failed(error)
+    }
+}
+
+// Reads the card into the two tables, and behind it the recipe.
+fn read_task(
+    rt: &HostRuntime,
+    symbols: &mut [SymbolRecord],
+    rules: &mut [RuleRecord],
+) -> Result<(record::Card, Recipe), Stop> {
+    let mut buffer = [0; 16384];
+    let card = read_card(&input::card_text(rt)?, &mut buffer, symbols, rules)?;
+    let recipe = read_owned_recipe(&input::recipe_text(rt)?, &symbols[..card.symbols])?;
+    Ok((card, recipe))
+}
+
+// Rewrites the recipe, and prints it and what comes of it.
+fn run(rt: &HostRuntime, card: &Card, recipe: &Recipe) -> anyhow::Result<()> {
     let heap = rt.alloc();
-    let recipe = match read_owned_recipe(&input::recipe_text(rt)?, records) {
-        Ok(recipe) => recipe,
-        Err(refusal) => return Ok(rt.println(CardFault::from(refusal))?),
-    };
     let recipe = input::recipe(heap, &card.symbols, recipe.places())?;
     rt.println(text_of(heap, &card.symbols, &recipe)?)?;
     let tree = rewrite(rt, card, recipe)?;
@@ -100,15 +133,15 @@ fn run(rt: &HostRuntime, records: &[SymbolRecord], card: &Card) -> anyhow::Resul
 }
 
 fn main(rt: HostRuntime) -> anyhow::Result<()> {
-    let mut buffer = [0; 16384];
     let mut symbols = [SymbolRecord::default(); 64];
     let mut rules = [RuleRecord::default(); 64];
-    let text = input::card_text(&rt)?;
-    let counts = match read_card(&text, &mut buffer, &mut symbols, &mut rules) {
-        Ok(counts) => counts,
-        Err(fault) => return Ok(rt.println(fault)?),
+    let (counts, recipe) = match read_task(&rt, &mut symbols, &mut rules) {
+        Ok(task) => task,
+        Err(Stop::Refused(fault)) => return Ok(rt.println(fault)?),
+        Err(Stop::Failed(error)) => return Err(error),
     };
-    let records = &symbols[..counts.symbols];
-    let card = input::card(rt.alloc(), records, &rules[..counts.rules])?;
-    run(&rt, records, &card)
+    let symbols = symbols.get(..counts.symbols).unwrap_or(&[]);
+    let rules = rules.get(..counts.rules).unwrap_or(&[]);
+    let card = input::card(rt.alloc(), symbols, rules)?;
+    run(&rt, &card, &recipe)
 }
