@@ -9,8 +9,8 @@ ghost use Rattle.dag.specs.Trees.{Valid};
 use crate::row::Row;
 
 // The records of nodes. The first `count` rows are in use. Among these each is a node whose children are records below it,
-// and no two are equal, so each stands for a tree of its own. The rows are memory that was handed over, of a fixed length, so how
-// many are in use stands beside them.
+// and no two are equal, so each stands for a tree of its own. The rows are memory that was handed over, as long as it was: to push
+// to the `Vec` might allocate.
 #[derive(Drop)]
 pub struct Table {
     rows: Vec<Row>,
