@@ -20,7 +20,7 @@ pub struct SymbolPhase<'a> {
     ghost kept: { ∥ Kept symbols.now rules.now (counts draft.now.symbols 0) ∥₁ },
 }
 
-// A draft that takes rule lines.
+// A draft that takes rule lines. It is another type, with a method `take` of its own, since it may write the other table.
 #[derive(Drop)]
 pub struct RulePhase<'a> {
     draft: &'a mut RuleDraft,

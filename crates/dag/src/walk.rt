@@ -10,7 +10,8 @@ ghost use Rattle.dag.specs.Walks.{Clear, listed};
 use crate::marks::Marks;
 use crate::table::Table;
 
-// A walk through the records of a table. Those that it came to are marked, and listed at the front of the order table.
+// A walk through the records of a table. Those that it came to are marked, and listed at the front of the order table. That the
+// two agree is a clause of each method and no ghost field, since between the two writes they do not.
 #[derive(Drop)]
 pub(crate) struct Walk<'a> {
     table: &'a Table,

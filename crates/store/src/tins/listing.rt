@@ -20,7 +20,8 @@ pub(crate) struct Listing<'a> {
     ghost ready: { Ready table.now order.now numbers.now },
 }
 
-// The bytes of a symbol's name, or zeros for a symbol that has no record.
+// The bytes of a symbol's name, or zeros for a symbol that has no record. No `map_or`: of a closure that answers an array a proof
+// does not know the answer.
 fn name_at(symbols: &[SymbolRecord], symbol: u8) -> [u8; 12]
     ensures { result ≡ (slice_index_or symbols.now symbol blank_symbol).name }
 {
@@ -62,7 +63,7 @@ impl Listing<'_> {
         line.text()
     }
 
-    // How many bytes the first lines have.
+    // How many bytes the first lines have. A `for`, since a closure could not show what a line asks of its place.
     fn length(&self, count: usize) -> usize
         requires { count ≤ length self.now.order.now }
         ensures sum { result ≡ length (lines_in self.now count) }
