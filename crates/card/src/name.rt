@@ -31,7 +31,7 @@ pub fn letters(name: &[u8; 12]) -> &[u8]
     &name[..n]
 }
 
-// Whether two names are the same.
+// Whether two names are the same: what `==` answers, in the words that look-ups are promised in.
 pub fn same_name(a: &[u8; 12], b: &[u8; 12]) -> bool
     ensures { result ≡ same_bytes a.now b.now }
 {

@@ -32,7 +32,8 @@ fn lone_variable(side: &[Place; 32]) -> bool
     matches!(side[0], Place::Variable(_))
 }
 
-// A side with the variables that may stand in it.
+// A side with the variables that may stand in it. A source and the card's symbols have nothing to do with one another, so they stay
+// two parameters.
 fn read_side<S: Source>(
     src: &mut S,
     symbols: &[SymbolRecord],

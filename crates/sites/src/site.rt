@@ -26,7 +26,8 @@ pub struct Site {
     pub inner: bool,
 }
 
-// The number of the first rule that fits, if any does.
+// The number of the first rule that fits, if any does. Card and tree stay two parameters: the card is asked about one tree after
+// another.
 pub fn fitting_number(card: &Card, tree: &Tree) -> Option<u16>
     ensures { result ≡ option_map (λ r. r.number) (fitting_rule (card_of card.now).rules (tree_of tree.now)) }
 {

@@ -29,7 +29,7 @@ impl From<Node> for Row {
 }
 
 impl Node {
-    // The node of a row that is known to be in order.
+    // The node of a row that is known to be in order. No `From`, which asks nothing of its caller.
     pub(crate) fn from_shaped_row(row: Row) -> Node
         requires { Shaped row }
         ensures { result.row ≡ row }
