@@ -57,7 +57,8 @@ fn due_after(symbols: &[SymbolRecord], due: usize, place: Place) -> Option<usize
     }
 }
 
-// How many terms are still due behind all of these places, where one is due before them, if each may stand where it does.
+// How many terms are still due behind all of these places, where one is due before them, if each may stand where it does. A `for`:
+// that the number stays small is an invariant, and `try_fold` has no place for one.
 fn due_behind(symbols: &[SymbolRecord], side: &[Place; 32]) -> Option<usize>
     ensures { result ≡ due_behind (arities symbols.now) 1 side.now }
 {

@@ -8,6 +8,7 @@ use card::record::{Card, RuleRecord, SymbolRecord};
 use card::refusal::Refusal;
 use cardtext::clean::clean;
 use draft::draft::SymbolDraft;
+use draft::wipe::wipe;
 
 // The tests that come before the first line, and a new draft behind them.
 fn begin(
@@ -44,7 +45,7 @@ pub fn read_card(
     let n = clean(text, buffer).unwrap();
     let read = read_lines(draft, symbols, rules, &buffer[..n]);
     if read.is_err() {
-        buffer.fill(0);
+        wipe(buffer, 0);
     }
     read
 }

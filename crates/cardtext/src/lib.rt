@@ -5,7 +5,7 @@
 // over the lines of the cleaned text, as parts of it, and counts them. `line::is_rule` tells a rule line from a symbol
 // line. `laws` has what cleaning and splitting are good for.
 //
-// The reader of whole cards, which drives drafts over these lines, is to stand above this crate and is no part of it.
+// The reader of whole cards, which drives drafts over these lines, stands above this crate, in `cardreader`.
 
 #![tactic(auto)]
 

@@ -5,6 +5,7 @@ ghost use Rattle.card.specs.declared.refusal.Refusal.TheVariants.{BrokenTable};
 ghost use Rattle.draft.specs.Drafts.{counts, Refused, RuleTaken, SymbolTaken};
 ghost use Rattle.reading.specs.Lines.{rule_line, symbol_line};
 
+use crate::wipe::wipe;
 use card::check::keeps_rules;
 use card::record::{Card, RuleRecord, SymbolRecord};
 use card::refusal::Refusal;
@@ -12,7 +13,9 @@ use reading::rule::read_rule_line;
 use reading::source::Source;
 use reading::symbol::read_symbol_line;
 
-// The two tables come as two parameters and not as one value: each call says by their types which of them it may write.
+// The two tables come as two parameters and not as one value: each call says by their types which of them it may write. And the
+// drafts are two types and not one with a parameter, though three of their methods are alike: so a symbol that is given late is a
+// mismatch of types.
 
 // A draft that takes symbol lines.
 pub struct SymbolDraft {
@@ -59,8 +62,8 @@ fn blank_tables(symbols: &mut [SymbolRecord], rules: &mut [RuleRecord])
     ensures symbols { symbols.new ≡ replicate (length symbols.old) blank_symbol }
     ensures rules { rules.new ≡ replicate (length rules.old) blank_rule }
 {
-    symbols.fill(SymbolRecord::default());
-    rules.fill(RuleRecord::default());
+    wipe(symbols, SymbolRecord::default());
+    wipe(rules, RuleRecord::default());
 }
 
 impl SymbolDraft {

@@ -12,3 +12,4 @@
 
 pub mod draft;
 pub mod laws;
+pub mod wipe;

@@ -18,6 +18,7 @@ pub fn ground(heap: Global, term: &Term) -> Result<Option<Tree>, AllocError>
     let Term::Symbol(f, terms) = term else {
         return Ok(None);
     };
+    // a `for`, here and wherever children are made: to make one can fail
     let mut children = Vec::new(heap);
     for t in terms {
         let Some(child) = ground(heap, t)? else {

@@ -12,17 +12,17 @@ use explicit::term::Term;
 use explicit::tree::Tree;
 use std::alloc::{AllocError, Global};
 
-// A left side that is held against a tree. Its methods go down both by loops: a closure that calls its own function again needs
+// A matching problem: a left side that is held against a tree. Its methods go down both by loops: a closure that calls its own function again needs
 // a contract of its own, so a chain would be no plainer.
 #[derive(Clone, Copy)]
-pub struct Candidate<'a> {
-    pub left: &'a Term,
-    pub tree: &'a Tree,
+pub struct Candidate<'l, 't> {
+    pub left: &'l Term,
+    pub tree: &'t Tree,
 }
 
-impl<'a> Candidate<'a> {
+impl<'l, 't> Candidate<'l, 't> {
     // What stands in the tree where the left side has the variable for the first time.
-    pub fn bound(self, variable: u8) -> Option<&'a Tree>
+    pub fn bound(self, variable: u8) -> Option<&'t Tree>
         ensures { option_map (λ u. tree_of u.now) result ≡ bound_tree (term_of self.entry.left.now) (tree_of self.entry.tree.now) variable }
     {
         match self.left {
@@ -40,7 +40,7 @@ impl<'a> Candidate<'a> {
     }
 
     // A variable that the left side lacks goes to the whole tree.
-    fn binding(self, variable: u8) -> &'a Tree
+    fn binding(self, variable: u8) -> &'t Tree
         ensures { tree_of result.now ≡ bindings_of self.entry variable }
     {
         self.bound(variable).unwrap_or(self.tree)

@@ -9,6 +9,7 @@ use explicit::card::{Symbol, arity};
 use explicit::term::Term;
 use std::alloc::{AllocError, Global};
 
+// One place of a term. None is empty, as one of a rule's record may be.
 #[derive(Clone, Copy)]
 pub enum Place {
     Symbol(u8),

@@ -18,14 +18,11 @@ pub struct Step {
     pub after: Tree,
 }
 
-// A redex by the first rule that fits, and any other tree as it is. Each arm can fail, which no method of `Option` takes.
+// A redex by the first rule that fits, and any other tree as it is.
 pub fn contractum(heap: Global, card: &Card, tree: &Tree) -> Result<Tree, AllocError>
     ensures { IfOk result (λ u. tree_of u ≡ contractum_tree (card_of card.now) (tree_of tree.now)) }
 {
-    match fitting(&card.rules, tree) {
-        Some(rule) => contracted(heap, rule, tree),
-        None => tree.clone(),
-    }
+    fitting(&card.rules, tree).map_or_else(|| tree.clone(), |rule| contracted(heap, rule, tree))
 }
 
 // Every occurrence of `old` replaced by `new`, which is not looked through again.

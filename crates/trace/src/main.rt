@@ -3,6 +3,8 @@
 
 #![tactic(auto)]
 
+ghost use Rattle.std.specs.Prelude.{◌≤◌, IfOk};
+
 mod input;
 
 use card::record::{self, RuleRecord, SymbolRecord};
@@ -87,35 +89,37 @@ fn print_sheet(rt: &HostRuntime, symbols: &[Symbol], rows: &[Row]) -> anyhow::Re
 
 // Why the program has nothing to rewrite: a refusal, which is an answer, or an error of reading.
 #[derive(Drop)]
-enum Stop {
+enum Failure {
     Refused(CardFault),
     Failed(anyhow::Error),
 }
 
-impl From<CardFault> for Stop {
-    fn from(fault: CardFault) -> Stop {
-        Stop::Refused(fault)
+impl From<CardFault> for Failure {
+    fn from(fault: CardFault) -> Failure {
+        Failure::Refused(fault)
     }
 }
 
-impl From<Refusal> for Stop {
-    fn from(refusal: Refusal) -> Stop {
-        Stop::Refused(refusal.into())
+impl From<Refusal> for Failure {
+    fn from(refusal: Refusal) -> Failure {
+        Failure::Refused(refusal.into())
     }
 }
 
-impl From<anyhow::Error> for Stop {
-    fn from(error: anyhow::Error) -> Stop {
-        Stop::Failed(error)
+impl From<anyhow::Error> for Failure {
+    fn from(error: anyhow::Error) -> Failure {
+        Failure::Failed(error)
     }
 }
 
-// Reads the card into the two tables, and behind it the recipe.
+// Reads the card into the two tables, and behind it the recipe. No more is counted than the tables hold.
 fn read_task(
     rt: &HostRuntime,
     symbols: &mut [SymbolRecord],
     rules: &mut [RuleRecord],
-) -> Result<(record::Card, Recipe), Stop> {
+) -> Result<(record::Card, Recipe), Failure>
+    ensures { IfOk result (λ task. (task.0.symbols ≤ 64) × (task.0.rules ≤ 64)) }
+{
     let mut buffer = [0; 16384];
     let card = read_card(&input::card_text(rt)?, &mut buffer, symbols, rules)?;
     let recipe = read_owned_recipe(&input::recipe_text(rt)?, &symbols[..card.symbols])?;
@@ -137,11 +141,10 @@ fn main(rt: HostRuntime) -> anyhow::Result<()> {
     let mut rules = [RuleRecord::default(); 64];
     let (counts, recipe) = match read_task(&rt, &mut symbols, &mut rules) {
         Ok(task) => task,
-        Err(Stop::Refused(fault)) => return Ok(rt.println(fault)?),
-        Err(Stop::Failed(error)) => return Err(error),
+        Err(Failure::Refused(fault)) => return Ok(rt.println(fault)?),
+        Err(Failure::Failed(error)) => return Err(error),
     };
-    let symbols = symbols.get(..counts.symbols).unwrap_or(&[]);
-    let rules = rules.get(..counts.rules).unwrap_or(&[]);
+    let (symbols, rules) = (&symbols[..counts.symbols], &rules[..counts.rules]);
     let card = input::card(rt.alloc(), symbols, rules)?;
     run(&rt, &card, &recipe)
 }
