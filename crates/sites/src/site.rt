@@ -88,6 +88,7 @@ fn is_inner(tree: &Tree, redexes: &[&Tree]) -> bool
     !redexes.iter().any(|redex| is_below(redex, tree))
 }
 
+// A `for`, since a site is made of four answers and two of them look at all redexes.
 fn sites_among(
     heap: Global,
     card: &Card,

@@ -49,6 +49,7 @@ fn print_step(
 fn rewrite(rt: &HostRuntime, card: &Card, recipe: Tree) -> anyhow::Result<Tree> {
     let heap = rt.alloc();
     let mut tree = recipe;
+    // how many steps were done
     for count in 0..BUDGET {
         let Some(step) = outermost_step(heap, card, &tree)? else {
             println!(rt; "normal {count}")?;

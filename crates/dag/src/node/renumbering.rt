@@ -15,6 +15,7 @@ impl Node {
         ensures children { children_of result.row ≡ renumber numbers.now (children_of self.row) }
     {
         let mut children = [0; 4];
+        // by place: of the slots that a `zip` with `iter_mut` hands out no invariant could speak
         for (place, child) in self.children().iter().enumerate() {
             children[place] = numbers[*child as usize];
         }

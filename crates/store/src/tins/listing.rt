@@ -76,7 +76,7 @@ impl Listing<'_> {
         sum
     }
 
-    // Writes all lines at the front of a buffer, and answers where they end.
+    // Writes all lines at the front of a buffer, and answers where they end. Each begins where the last one ended.
     fn write_lines(&self, out: &mut [u8]) -> usize
         requires { length (lines_in self.now (length self.now.order.now)) ≤ length out.old }
         ensures { PutAtFront (lines_in self.now (length self.now.order.now)) result out.old out.new }

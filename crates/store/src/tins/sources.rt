@@ -29,6 +29,7 @@ impl Tins {
         ensures { take (length sources.now) result ≡ source_records self.now.roots sources.now }
     {
         let mut records = [0; 4];
+        // by place: of the slots that a `zip` with `iter_mut` hands out no invariant could speak
         for (i, source) in sources.iter().enumerate() {
             records[i] = self.root(*source).unwrap_or(0);
         }
