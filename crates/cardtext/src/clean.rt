@@ -16,11 +16,11 @@ fn is_blank(b: u8) -> bool
     matches!(b, b' ' | b'\t')
 }
 
-// The bytes of a text that are kept. What is kept hangs on the bytes before, so this is an iterator of its own and no filter.
+// The bytes of a text that are kept. Whether one is depends on the bytes before it, so this is an iterator of its own and no filter.
 #[derive(Drop)]
 struct Kept<'a> {
     text: &'a [u8],
-    // whether the byte before the text is part of a note; no value hangs on it
+    // whether the byte before the text is part of a note; no value depends on it
     noted: bool,
 }
 

@@ -17,8 +17,8 @@ fn line_end(text: &[u8]) -> Option<usize>
     text.iter().position(|b| *b == b'\n')
 }
 
-// The first line of a text, without its end, and what stands behind that end. The arms cut the text in two ways, one by a place
-// that only a test shows to be inside it.
+// The first line of a text, without its end, and what stands behind that end. A `match`, since the two
+// arms have nothing in common but their type.
 pub(crate) fn split_line(text: &[u8]) -> (&[u8], &[u8])
     requires { 0 < length text.now }
     ensures first { lines text.now ≡ result.0.now ∷ lines result.1.now }

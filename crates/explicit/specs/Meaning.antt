@@ -19,11 +19,11 @@ row [] = theory.nil
 row (t ∷ ts) = theory.cons t (row ts)
 
 -- one level: a symbol is its number
-abbrev pub tree_step : Tree-F theory.Tree → theory.Tree
-tree_step t = theory.node t.symbol (row t.children.items)
+abbrev pub tree_level : Tree-F theory.Tree → theory.Tree
+tree_level t = theory.node t.symbol (row t.children.items)
 
 abbrev pub tree_of : Tree → theory.Tree
-tree_of = fold-Tree theory.Tree tree_step
+tree_of = fold-Tree theory.Tree tree_level
 
 abbrev pub trees_of : List Tree → theory.Trees
 trees_of ts = row (map tree_of ts)
@@ -34,12 +34,12 @@ rowᵗ [] = theory.nilᵗ
 rowᵗ (t ∷ ts) = theory.consᵗ t (rowᵗ ts)
 
 -- and a variable is its number
-abbrev pub term_step : Term-F theory.Term → theory.Term
-term_step (Term-F.Variable v) = theory.var v
-term_step (Term-F.Symbol f ts) = theory.app f (rowᵗ ts.items)
+abbrev pub term_level : Term-F theory.Term → theory.Term
+term_level (Term-F.Variable v) = theory.var v
+term_level (Term-F.Symbol f ts) = theory.app f (rowᵗ ts.items)
 
 abbrev pub term_of : Term → theory.Term
-term_of = fold-Term theory.Term term_step
+term_of = fold-Term theory.Term term_level
 
 abbrev pub terms_of : List Term → theory.Terms
 terms_of ts = rowᵗ (map term_of ts)

@@ -38,7 +38,7 @@ pub fn sheet(heap: Global, tree: &Tree) -> Result<Vec<Row>, AllocError>
     ensures { IfOk result (λ v. map row_of v.items ≡ sheet_rows (tree_of tree.now)) }
 {
     let order = subterms(heap, tree)?;
-    // a `for`, since a row can fail to be made, and of a chain that can fail the check finds no items
+    // a `for`: to make a row can fail, and a proof does not know the items of a chain that can
     let mut rows = Vec::new(heap);
     for subterm in &order {
         rows.push(row_for(heap, &order, subterm)?)?;

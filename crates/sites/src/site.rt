@@ -14,7 +14,7 @@ use listing::subterm::subterms;
 use matching::rule::fitting;
 use std::alloc::{AllocError, Global};
 
-// The two flags are facts by themselves: no value hangs on them.
+// The two flags are facts by themselves: no value depends on them.
 #[derive(Clone, Copy)]
 pub struct Site {
     // The redex's place in sheet order, from 1.

@@ -31,17 +31,14 @@ fn name_at(symbols: &[SymbolRecord], symbol: u8) -> [u8; 12]
     record.name
 }
 
-// Writes a text into a buffer from a place on, and answers where it ends. The place stands beside the buffer since the texts
-// behind one another have to leave what is behind them as it is.
+// Writes a text into a buffer from a place on, and answers where it ends. It takes the whole buffer beside the place, since its
+// promise speaks of what stands before and behind.
 fn put_behind(text: &Text, out: &mut [u8], at: usize) -> usize
     requires { at + length (bytes_of text.now) ≤ length out.old }
     ensures end { result ≡ at + length (bytes_of text.now) }
     ensures bytes { out.new ≡ take at out.old ++ (bytes_of text.now ++ drop result out.old) }
 {
-    let Some(count) = text.write_to(&mut out[at..]) else {
-        unreachable()
-    };
-    at + count
+    at + text.write_to(&mut out[at..]).unwrap()
 }
 
 impl Listing<'_> {

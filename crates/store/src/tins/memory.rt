@@ -9,8 +9,8 @@ use crate::tins::work::WorkTables;
 use dag::table::Table;
 
 impl Tins {
-    // Empty tins over these tables, which come back as they were if there are more than 4,096 rows. Both ways use up the other
-    // three, so a `match` and no `map_err`.
+    // Empty tins over these tables, which come back as they were if there are more than 4,096 rows. A `match` and no
+    // `map_err`, since each arm moves the other three tables.
     pub(crate) fn new(memory: Memory) -> Result<Tins, Memory>
         requires { AsLong memory }
         ensures { MatchResult result
