@@ -43,7 +43,8 @@ impl Iterator for Kept<'_> {
     }
 }
 
-// Copies what is kept of the text to the buffer's front, and answers how much that is.
+// Copies what is kept of the text to the buffer's front, and answers how much that is. A `for` over the slots: how many were filled is
+// the answer, which a `zip` does not tell.
 fn copy_kept(text: &[u8], buffer: &mut [u8]) -> usize
     requires { length text.now ≤ length buffer.old }
     ensures kept { take result buffer.new ≡ cleaned text.now }

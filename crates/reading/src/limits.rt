@@ -18,6 +18,8 @@ fn first_symbols(symbols: &[SymbolRecord]) -> &[SymbolRecord]
     &symbols[..SYMBOLS.min(symbols.len())]
 }
 
+// The two grammars differ in their limits only. They stay two functions, since one that is told all limits would be the record again.
+
 // What a side of a rule goes by, with the variables that may stand in it.
 pub fn side_grammar(symbols: &[SymbolRecord], may: [bool; 8]) -> Grammar<'_>
     ensures { grammar_of result ≡ side_grammar (take 64 symbols.now) may }

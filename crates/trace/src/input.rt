@@ -62,7 +62,7 @@ fn symbols(heap: Global, records: &[SymbolRecord]) -> anyhow::Result<Vec<Symbol>
 }
 
 fn rules(heap: Global, symbols: &[Symbol], records: &[RuleRecord]) -> anyhow::Result<Vec<Rule>> {
-    // rules are numbered from 1, and a card has 64 at most
+    // a `for`: to make a rule can fail. Rules are numbered from 1, and a card has 64 at most
     let mut rules = Vec::new(heap);
     for (number, record) in (1..u16::MAX).zip(records) {
         rules.push(Rule {

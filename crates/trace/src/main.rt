@@ -49,7 +49,7 @@ fn print_step(
 fn rewrite(rt: &HostRuntime, card: &Card, recipe: Tree) -> anyhow::Result<Tree> {
     let heap = rt.alloc();
     let mut tree = recipe;
-    // how many steps were done
+    // a `for` over how many steps were done: each starts from the last one's tree, and can fail
     for count in 0..BUDGET {
         let Some(step) = outermost_step(heap, card, &tree)? else {
             println!(rt; "normal {count}")?;
@@ -140,6 +140,7 @@ fn run(rt: &HostRuntime, card: &Card, recipe: &Recipe) -> anyhow::Result<()> {
 fn main(rt: HostRuntime) -> anyhow::Result<()> {
     let mut symbols = [SymbolRecord::default(); 64];
     let mut rules = [RuleRecord::default(); 64];
+    // a refusal is an answer of the program, so it is printed and not passed on
     let (counts, recipe) = match read_task(&rt, &mut symbols, &mut rules) {
         Ok(task) => task,
         Err(Failure::Refused(fault)) => return Ok(rt.println(fault)?),

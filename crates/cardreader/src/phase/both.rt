@@ -53,7 +53,8 @@ fn read_rules(
     }
 }
 
-// Both phases, on the two tables of the call. Here too the draft is spent on each way out.
+// Both phases. Here too the draft is spent on each way out. The tables stay two parameters: a draft's calls and the phases say by
+// their types which of them they may write.
 pub fn read_lines(
     draft: SymbolDraft,
     symbols: &mut [SymbolRecord],

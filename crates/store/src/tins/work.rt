@@ -19,7 +19,8 @@ use dag::row::Row;
 use dag::table::Table;
 use dag::walk::subterm_records;
 
-// Marks, which are all 0 between calls, and two tables of numbers that are as long.
+// Marks, which are all 0 between calls, and two tables of numbers that are as long. They are three tables, since each is lent by
+// itself.
 #[derive(Drop)]
 pub struct WorkTables {
     marks: Vec<u8>,
