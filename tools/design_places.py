@@ -161,8 +161,8 @@ def main():
             for path, i, what in found:
                 print(point, path.relative_to(top), i + 1, what)
                 counts[point] += 1
-    for point, n in sorted(counts.items()):
-        print(f"point {point}: {n}")
+    for point in args or "1234567":
+        print(f"point {point}: {counts[point]}")
 
 
 main()
