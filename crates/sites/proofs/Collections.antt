@@ -1,15 +1,14 @@
 -- One turn of the loop that collects sites: what is found so far, and then what is left, is the whole. Assumes nothing.
-use Rattle.std.proofs.Common.{◌≡◌, ℕ, suc, ◌+◌, ◌<◌, ◌≤◌, Bool, true, false, not, List, [], ◌∷◌, ◌++◌, map, length, get_or, drop, is_some, Some, None, Option, sym, refl, ap, ◌∙◌, add-one, append_assoc, append-nil, Bor}
+use Rattle.std.proofs.Common.{◌≡◌, ℕ, suc, ◌+◌, ◌<◌, Bool, true, false, not, List, [], ◌∷◌, ◌++◌, map, length, get_or, drop, is_some, Some, None, Option, refl, ap, ◌∙◌, add-one, append_assoc, Bor}
 use Rattle.std.specs.Option.{option_map}
 use Rattle.std.proofs.lemmas.List.{map_push}
 use Rattle.rewriting.specs.Terms as theory
 use Rattle.rewriting.specs.Cards as cards
 use Rattle.rewriting.specs.Matching.{fitting}
 use Rattle.rewriting.specs.Sites as sites
-use Rattle.rewriting.specs.Subterms.{subterms}
 use Rattle.explicit.specs.declared.tree.Tree.{Tree}
 use Rattle.explicit.specs.Meaning.{tree_of, listed}
-use Rattle.explicit.proofs.Loops.{reads, ends}
+use Rattle.explicit.proofs.Loops.{reads}
 use Rattle.sites.specs.declared.site.Site.{Site}
 use Rattle.sites.specs.Records.{site_of}
 
@@ -49,15 +48,3 @@ module _ (us : List (Bor Tree)) (i : ℕ) (u : Bor Tree) (h : i < length us) (e 
   pub no_site : {same : List Site} → None ≡ option_map (λ r. r.number) (fitting C.rules (tree_of u.now)) → same ≡ found
       → map site_of same ++ left C R (i + 1) us ≡ y
   no_site rule at = ap (λ ks. map site_of ks ++ left C R (i + 1) us) at ∙ turn false (no_rule (fitting C.rules (tree_of u.now)) rule)
-
--- nothing is left
-pub all_sites : (us : List (Bor Tree)) (i : ℕ) (C : cards.Card) (R : List theory.Tree) (found : List Site) {y : List sites.Site}
-    → length us ≤ i → map site_of found ++ left C R i us ≡ y → map site_of found ≡ y
-all_sites us i C R found past inv =
-    sym (append-nil (map site_of found)) ∙ ends (λ vs. map site_of found ++ sites.sites_from C R (i + 1) (listed vs)) us i past inv
-
--- the list is that of a tree's sites if it is made of the tree's subterms and of its redexes
-pub sites_are : (C : cards.Card) (t : theory.Tree) {order all : List theory.Tree} → order ≡ subterms t → all ≡ sites.keep (sites.redex C) order
-    → sites.sites_from C all 1 order ≡ sites.sites C t
-sites_are C t {order} e f =
-    ap (λ all. sites.sites_from C all 1 order) f ∙ ap (λ xs. sites.sites_from C (sites.keep (sites.redex C) xs) 1 xs) e

@@ -1,6 +1,6 @@
 use Rattle.std.proofs.Common.{vec_items, ap, ◌∙◌, refl}
 use Rattle.explicit.specs.Meaning.{card_of, listed}
-use Rattle.sites.proofs.Collections.{site_made, no_site, all_sites}
+use Rattle.sites.proofs.Collections.{site_made, no_site}
 use Rattle.sites.proofs.site.sites_among.Goals as goal
 use Rattle.sites.proofs.site.sites_among.Goals.{in-Some+in_ok-push, in_default}
 
@@ -16,7 +16,3 @@ loop-i-preserved c =
           no_site c.args.order.now c.loop-i.i c.index-order-i.result c.loop-i-test.true c.index-order-i.is C R c.loop-i.sites.items _ c.loop-i.invariant
           w.in_default.ensures (ap vec_items w.sites-is)
     ]
-
-pub returns : goal.returns
-returns c =
-    all_sites c.args.order.now c.loop-i.i (card_of c.args.card.now) (listed c.args.redexes.now) c.loop-i.sites.items c.loop-i-test.false c.loop-i.invariant
