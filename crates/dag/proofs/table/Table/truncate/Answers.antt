@@ -4,13 +4,7 @@ use Rattle.std.proofs.lemmas.List.{take_all}
 use Rattle.dag.specs.Tables.{trees}
 use Rattle.dag.specs.Trees.{table_trees}
 use Rattle.dag.proofs.Invariant.{one_tree_each, trees_take}
-use Rattle.dag.proofs.Records.{shorter}
 use Rattle.dag.proofs.table.Table.truncate.Goals as goal
-
-pub invariant_of-self : goal.invariant_of-self
-invariant_of-self c =
-    let t = c.args.self.now in
-    record { small = t.small; valid = shorter (vec_items t.rows) t.count t.valid c.min-self.result (omega arith) }
 
 pub returns : goal.returns
 returns c =
