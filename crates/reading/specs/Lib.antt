@@ -5,6 +5,7 @@ pub mod Lines
 pub mod Progress
 pub mod Recipes
 pub mod Refusing
+pub mod RecipePlaces
 pub mod Scanning
 pub mod Sources
 pub mod Written

@@ -5,7 +5,6 @@ use Rattle.card.specs.declared.record.SymbolRecord.{SymbolRecord}
 use Rattle.card.specs.declared.refusal.Refusal.{Refusal}
 use Rattle.card.specs.declared.refusal.Refusal.TheVariants.{TextTooLong}
 use Rattle.reading.specs.declared.fault.Fault.TheVariants.{WrongByte}
-use Rattle.reading.specs.declared.owned.Recipe.{Recipe}
 use Rattle.reading.specs.Faults.{refusal_of}
 use Rattle.reading.specs.Scanning.{Grammar, at_start, Scan, whole, stuck, scan}
 use Rattle.reading.specs.Written.{TextOf, ProperSymbols}
@@ -22,10 +21,6 @@ recipe_read (whole ps (b ∷ bs)) = Err (refusal_of WrongByte)
 -- the places of a recipe, or why it is refused
 abbrev pub recipe : List SymbolRecord → List ℕ → Result (List Place) Refusal
 recipe ss text = elim (nat_lt 4096 (length text)) [ true ↦ Err TextTooLong | false ↦ recipe_read (scan (recipe_grammar ss) (at_start []) [] text) ]
-
--- the places that a recipe of its own holds
-abbrev pub recipe_places : Recipe → List Place
-recipe_places r = r.places.items
 
 -- LAWS
 

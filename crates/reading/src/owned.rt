@@ -1,37 +1,16 @@
 // A recipe that was read.
-ghost use Rattle.std.specs.Prelude.{◌≡◌, take, Ok, Err, MatchResult};
-ghost use Rattle.reading.specs.Recipes.{recipe, recipe_places};
+ghost use Rattle.std.specs.Prelude.{◌≤◌, length};
 
-use crate::recipe::read_recipe;
+mod reading;
+
+pub use crate::owned::reading::read_owned_recipe;
 use arrayvec::ArrayVec;
-use card::record::{Place, SymbolRecord};
-use card::refusal::Refusal;
+use card::record::Place;
 
 // The places of a recipe's tree in preorder, with room for those of every text that is accepted. It is a value of its own,
 // so a text that is refused leaves nothing behind.
 #[derive(Drop)]
 pub struct Recipe {
     places: ArrayVec<Place, 4096>,
-}
-
-impl Recipe {
-    // The places of its tree, in preorder.
-    pub fn places(&self) -> &[Place]
-        ensures { result.now ≡ recipe_places self.now }
-    {
-        self.places.as_slice()
-    }
-}
-
-// The recipe of a text over at most 64 symbols.
-pub fn read_owned_recipe(text: &[u8], symbols: &[SymbolRecord]) -> Result<Recipe, Refusal>
-    ensures { MatchResult result
-        (λ p. recipe (take 64 symbols.now) text.now ≡ Ok (recipe_places p))
-        (λ f. recipe (take 64 symbols.now) text.now ≡ Err f) }
-{
-    let mut places = [Place::Empty; 4096];
-    let count = read_recipe(text, symbols, &mut places)?;
-    let mut places = ArrayVec::from(places);
-    places.truncate(count);
-    Ok(Recipe { places })
+    ghost few: { length places.items ≤ 4096 },
 }
