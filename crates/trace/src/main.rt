@@ -3,11 +3,9 @@
 
 #![tactic(auto)]
 
-ghost use Rattle.std.specs.Prelude.{◌≤◌, IfOk};
-
 mod input;
 
-use card::record::{self, RuleRecord, SymbolRecord};
+use card::record::{RuleRecord, SymbolRecord};
 use card::refusal::Refusal;
 use cardreader::fault::CardFault;
 use cardreader::reader::read_card;
@@ -113,17 +111,16 @@ impl From<anyhow::Error> for Failure {
     }
 }
 
-// Reads the card into the two tables, and behind it the recipe. No more is counted than the tables hold.
-fn read_task(
-    rt: &HostRuntime,
-    symbols: &mut [SymbolRecord],
-    rules: &mut [RuleRecord],
-) -> Result<(record::Card, Recipe), Failure>
-    ensures { IfOk result (λ task. (task.0.symbols ≤ 64) × (task.0.rules ≤ 64)) }
-{
+// Reads the card, and behind it the recipe. The card's terms are made before the recipe is looked at.
+fn read_task(rt: &HostRuntime) -> Result<(Card, Recipe), Failure> {
     let mut buffer = [0; 16384];
-    let card = read_card(&input::card_text(rt)?, &mut buffer, symbols, rules)?;
-    let recipe = read_owned_recipe(&input::recipe_text(rt)?, &symbols[..card.symbols])?;
+    let mut symbols = [SymbolRecord::default(); 64];
+    let mut rules = [RuleRecord::default(); 64];
+    let text = input::card_text(rt)?;
+    let counts = read_card(&text, &mut buffer, &mut symbols, &mut rules)?;
+    let symbols = &symbols[..counts.symbols];
+    let card = input::card(rt.alloc(), symbols, &rules[..counts.rules])?;
+    let recipe = read_owned_recipe(&input::recipe_text(rt)?, symbols)?;
     Ok((card, recipe))
 }
 
@@ -138,15 +135,10 @@ fn run(rt: &HostRuntime, card: &Card, recipe: &Recipe) -> anyhow::Result<()> {
 }
 
 fn main(rt: HostRuntime) -> anyhow::Result<()> {
-    let mut symbols = [SymbolRecord::default(); 64];
-    let mut rules = [RuleRecord::default(); 64];
     // a refusal is an answer of the program, so it is printed and not passed on
-    let (counts, recipe) = match read_task(&rt, &mut symbols, &mut rules) {
-        Ok(task) => task,
-        Err(Failure::Refused(fault)) => return Ok(rt.println(fault)?),
-        Err(Failure::Failed(error)) => return Err(error),
-    };
-    let (symbols, rules) = (&symbols[..counts.symbols], &rules[..counts.rules]);
-    let card = input::card(rt.alloc(), symbols, rules)?;
-    run(&rt, &card, &recipe)
+    match read_task(&rt) {
+        Ok((card, recipe)) => run(&rt, &card, &recipe),
+        Err(Failure::Refused(fault)) => Ok(rt.println(fault)?),
+        Err(Failure::Failed(error)) => Err(error),
+    }
 }
