@@ -1,3 +1,4 @@
+pub mod Comparing
 pub mod Equality
 pub mod Instances
 pub mod Levels

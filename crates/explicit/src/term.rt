@@ -19,7 +19,7 @@ pub fn ground(heap: Global, term: &Term) -> Result<Option<Tree>, AllocError>
         return Ok(None);
     };
     // a `for`, here and wherever children are made: to make one can fail
-    let mut children = Vec::new(heap);
+    let mut children = Vec::with_capacity(heap, terms.len())?;
     for t in terms {
         let Some(child) = ground(heap, t)? else {
             return Ok(None);

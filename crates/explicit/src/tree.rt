@@ -1,6 +1,6 @@
 // Trees on the heap: equality and copies.
 ghost use Rattle.std.specs.Prelude.{◌≡◌};
-ghost use Rattle.rewriting.specs.Terms.{same as same_tree};
+ghost use Rattle.rewriting.specs.Terms.{children, same as same_tree, sames as same_trees};
 ghost use Rattle.explicit.specs.Meaning.{tree_of};
 
 use std::alloc::AllocError;
@@ -12,11 +12,30 @@ pub struct Tree {
 }
 
 impl Tree {
-    // Whether the trees have the same symbol over the same children, which is what `==` answers.
+    // Whether the trees have the same symbol over the same children. It answers what `==` does and is what the rewriter compares
+    // trees by. Most differ at their roots, and those are told apart without a call.
+    #[inline]
+    #[cycle(same_same_children)]
     pub fn same(&self, other: &Tree) -> bool
         ensures { result ≡ same_tree (tree_of self.now) (tree_of other.now) }
     {
-        self == other
+        self.symbol == other.symbol && self.same_children(other)
+    }
+
+    #[inline(never)]
+    #[cycle(same_same_children)]
+    fn same_children(&self, other: &Tree) -> bool
+        ensures { result ≡ same_trees (children (tree_of self.now)) (children (tree_of other.now)) }
+    {
+        if self.children.len() != other.children.len() {
+            return false;
+        }
+        for (child, counterpart) in self.children.iter().zip(&other.children) {
+            if !child.same(counterpart) {
+                return false;
+            }
+        }
+        true
     }
 }
 

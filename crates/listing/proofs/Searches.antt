@@ -1,26 +1,23 @@
 -- Searches for a tree in a list, and what a walk adds. Assumes nothing.
-use Rattle.std.proofs.Common.{◌≡◌, ℕ, zero, suc, ◌+◌, ◌≤◌, Bool, true, false, List, [], ◌∷◌, ◌++◌, Some, None, Option, length, drop, map, sym, refl, ap, ◌∙◌, cond, ltb, unwrap_or, arith, one-add, Bor}
+use Rattle.std.proofs.Common.{◌≡◌, ℕ, zero, suc, ◌+◌, ◌≤◌, Bool, true, false, ◌||◌, List, [], ◌∷◌, ◌++◌, Some, None, Option, length, drop, map, sym, refl, ap, ◌∙◌, cond, ltb, unwrap_or, arith, one-add, Bor}
 use Rattle.std.specs.List.{list_any, position_or_len}
 use Rattle.std.proofs.lemmas.Bool.{ltb-false}
 use Rattle.std.proofs.lemmas.List.{map_push}
 use Rattle.std.proofs.lemmas.List.Recursion.{is_position_or_len}
 use Rattle.rewriting.specs.Terms as theory
 use Rattle.rewriting.specs.Subterms.{member, place_of, add, walk, walks, row}
-use Rattle.explicit.specs.contracts.tree.TreePartialEq.TheImpl.{ghosts}
 use Rattle.explicit.specs.declared.tree.Tree.{Tree, out-Tree}
 use Rattle.explicit.specs.Meaning.{tree_of, trees_of, listed}
-use Rattle.explicit.proofs.Equality.{eq_is_same_back}
 use Rattle.explicit.proofs.Levels.{tree_of-out}
 use Rattle.explicit.proofs.Loops.{ends}
 
-pub contains_is : (t : Tree) (us : List (Bor Tree)) → list_any (λ u. ghosts.eq u.now t) us ≡ member (tree_of t) (listed us)
-contains_is t [] = refl
-contains_is t (u ∷ us) = rw (eq_is_same_back t u.now, contains_is t us)
+pub any_is : (t : Tree) (us : List (Bor Tree)) → list_any (λ u. theory.same (tree_of t) (tree_of u.now)) us ≡ member (tree_of t) (listed us)
+any_is t [] = refl
+any_is t (u ∷ us) = ap (λ b. theory.same (tree_of t) (tree_of u.now) || b) (any_is t us)
 
-pub place_is : (t : Tree) (us : List (Bor Tree)) → place_of (tree_of t) (listed us) ≡ position_or_len (λ u. ghosts.eq u.now t) us
-place_is t = is_position_or_len (λ us. place_of (tree_of t) (listed us)) (λ u. ghosts.eq u.now t) refl
-    (λ u us. ap (λ b. elim b [ true ↦ zero | false ↦ suc (place_of (tree_of t) (listed us)) ]) (sym (eq_is_same_back t u.now))
-    ∙ go (ghosts.eq u.now t) (place_of (tree_of t) (listed us)))
+pub place_is : (t : Tree) (us : List (Bor Tree)) → place_of (tree_of t) (listed us) ≡ position_or_len (λ u. theory.same (tree_of t) (tree_of u.now)) us
+place_is t = is_position_or_len (λ us. place_of (tree_of t) (listed us)) (λ u. theory.same (tree_of t) (tree_of u.now)) refl
+    (λ u us. go (theory.same (tree_of t) (tree_of u.now)) (place_of (tree_of t) (listed us)))
   where
     go : (b : Bool) (n : ℕ) → elim b [ true ↦ zero | false ↦ suc n ] ≡ cond b 0 (1 + n)
     go true n = refl
@@ -54,12 +51,12 @@ module _ (t : Tree) (kids : List Tree) (at : kids ≡ (out-Tree t).children.item
       (sym (ends (λ us. walks (trees_of us) (listed now)) kids i past inv ∙ ap (λ us. walks (trees_of us) (listed old)) at))
       ∙ ap (λ u. add u (listed now)) (sym (tree_of-out t))
 
-  pub is_there : (ws : List (Bor Tree)) → ws ≡ now → true ≡ list_any (λ u. ghosts.eq u.now t) ws → listed now ≡ walk (tree_of t) (listed old)
+  pub is_there : (ws : List (Bor Tree)) → ws ≡ now → true ≡ list_any (λ u. theory.same (tree_of t) (tree_of u.now)) ws → listed now ≡ walk (tree_of t) (listed old)
   is_there ws read test =
-      sym (walked ∙ ap (λ b. elim b [ true ↦ listed now | false ↦ listed now ++ (tree_of t ∷ []) ]) (sym (test ∙ contains_is t ws ∙ ap (λ us. member (tree_of t) (listed us)) read)))
+      sym (walked ∙ ap (λ b. elim b [ true ↦ listed now | false ↦ listed now ++ (tree_of t ∷ []) ]) (sym (test ∙ any_is t ws ∙ ap (λ us. member (tree_of t) (listed us)) read)))
 
-  pub is_added : (ws : List (Bor Tree)) (u : Bor Tree) {new : List (Bor Tree)} → ws ≡ now → false ≡ list_any (λ v. ghosts.eq v.now t) ws
+  pub is_added : (ws : List (Bor Tree)) (u : Bor Tree) {new : List (Bor Tree)} → ws ≡ now → false ≡ list_any (λ v. theory.same (tree_of t) (tree_of v.now)) ws
       → u.now ≡ t → new ≡ now ++ (u ∷ []) → listed new ≡ walk (tree_of t) (listed old)
   is_added ws u read test same push =
       ap listed push ∙ map_push (λ v. tree_of v.now) now u ∙ ap (λ v. listed now ++ (tree_of v ∷ [])) same
-      ∙ sym (walked ∙ ap (λ b. elim b [ true ↦ listed now | false ↦ listed now ++ (tree_of t ∷ []) ]) (sym (test ∙ contains_is t ws ∙ ap (λ us. member (tree_of t) (listed us)) read)))
+      ∙ sym (walked ∙ ap (λ b. elim b [ true ↦ listed now | false ↦ listed now ++ (tree_of t ∷ []) ]) (sym (test ∙ any_is t ws ∙ ap (λ us. member (tree_of t) (listed us)) read)))

@@ -18,7 +18,7 @@ pub struct Row {
 fn number_of(tree: &Tree, order: &[&Tree]) -> usize
     ensures { result ≡ suc (place_of (tree_of tree.now) (listed order.now)) }
 {
-    let place = order.iter().position(|x| *x == tree);
+    let place = order.iter().position(|other| tree.same(other));
     place.unwrap_or(order.len()) + 1
 }
 

@@ -13,7 +13,7 @@ fn walk<'a>(tree: &'a Tree, seen: &mut Vec<&'a Tree>) -> Result<(), AllocError>
     for child in &tree.children {
         walk(child, seen)?;
     }
-    if !seen.contains(&tree) {
+    if !seen.iter().any(|other| tree.same(other)) {
         seen.push(tree)?;
     }
     Ok(())

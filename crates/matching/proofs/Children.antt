@@ -1,14 +1,13 @@
 -- A left side's children held against those of a tree, and the first rule that fits. Assumes nothing.
-use Rattle.std.proofs.Common.{◌≡◌, ◌≢◌, ℕ, suc, Bool, true, false, ◌&&◌, ◌==◌, List, [], ◌∷◌, map, length, Some, None, Option, refl, sym, ap, ◌∙◌, cond, ⊎_elim, ◌⊎◌, Bor, Vec, Global}
+use Rattle.std.proofs.Common.{◌≡◌, ◌≢◌, ℕ, suc, Bool, true, false, ◌&&◌, List, [], ◌∷◌, map, length, Some, None, Option, refl, sym, ap, ◌∙◌, cond, ⊎_elim, ◌⊎◌, Bor}
 use Rattle.std.specs.Option.{option_map}
 use Rattle.std.specs.List.{find}
 use Rattle.rewriting.specs.Terms as theory
 use Rattle.rewriting.specs.Matching as matching
 use Rattle.explicit.specs.declared.tree.Tree.{Tree, out-Tree}
-use Rattle.explicit.specs.declared.term.Term.{Term, Symbol}
+use Rattle.explicit.specs.declared.term.Term.{Term}
 use Rattle.explicit.specs.declared.card.Rule.{Rule}
-use Rattle.explicit.proofs.Levels.{tree_of-out, term_of-symbol}
-use Rattle.std.proofs.lemmas.Bool.{ne_eqb}
+use Rattle.explicit.proofs.Levels.{tree_of-out}
 use Rattle.explicit.specs.Meaning.{rule_of, term_of, terms_of, tree_of, trees_of}
 
 -- where one of the two lists is empty, nothing is bound
@@ -48,19 +47,8 @@ pub of_refs : {A B : Type 0} (f : A → B) (o : Option (Bor A)) → option_map (
 of_refs f None = refl
 of_refs f (Some u) = refl
 
--- a term of a symbol is no tree of another symbol, and none with more children or fewer
-module _ (σ : theory.Substitution) (l : Term) (f : ℕ) (ls : Vec Term Global) (t : Tree) (is : l ≡ Symbol f ls) where
-  apart : theory.same (theory.apply σ (term_of l)) (tree_of t)
-      ≡ ((f == (out-Tree t).symbol) && theory.sames (theory.applies σ (terms_of ls.items)) (trees_of (out-Tree t).children.items))
-  apart = ap (λ k. theory.same (theory.apply σ k) (tree_of t)) (ap term_of is ∙ term_of-symbol f ls)
-      ∙ ap (theory.same (theory.node f (theory.applies σ (terms_of ls.items)))) (tree_of-out t)
-
-  pub other_symbol : f ≢ (out-Tree t).symbol → false ≡ theory.same (theory.apply σ (term_of l)) (tree_of t)
-  other_symbol ne = sym (apart ∙ ap (λ b. b && theory.sames (theory.applies σ (terms_of ls.items)) (trees_of (out-Tree t).children.items)) (ne_eqb f (out-Tree t).symbol ne))
-
-  pub other_count : length ls.items ≢ length (out-Tree t).children.items → false ≡ theory.same (theory.apply σ (term_of l)) (tree_of t)
-  other_count ne = sym (apart ∙ ap (λ b. (f == (out-Tree t).symbol) && b) (sames_long σ ls.items (out-Tree t).children.items ne) ∙ and_false (f == (out-Tree t).symbol))
-    where
-      and_false : (b : Bool) → (b && false) ≡ false
-      and_false true = refl
-      and_false false = refl
+-- more parts than children, or fewer
+pub other_count : (σ : theory.Substitution) (ls : List Term) (t : Tree) → length ls ≢ length (out-Tree t).children.items
+    → false ≡ theory.sames (theory.applies σ (terms_of ls)) (theory.children (tree_of t))
+other_count σ ls t ne =
+    sym (ap (λ u. theory.sames (theory.applies σ (terms_of ls)) (theory.children u)) (tree_of-out t) ∙ sames_long σ ls (out-Tree t).children.items ne)

@@ -29,10 +29,10 @@ pub fn contractum(heap: Global, card: &Card, tree: &Tree) -> Result<Tree, AllocE
 pub fn replace(heap: Global, old: &Tree, new: &Tree, tree: &Tree) -> Result<Tree, AllocError>
     ensures { IfOk result (λ u. tree_of u ≡ replace_tree (tree_of old.now) (tree_of new.now) (tree_of tree.now)) }
 {
-    if old == tree {
+    if old.same(tree) {
         return new.clone();
     }
-    let mut children = Vec::new(heap);
+    let mut children = Vec::with_capacity(heap, tree.children.len())?;
     for child in &tree.children {
         children.push(replace(heap, old, new, child)?)?;
     }
@@ -47,6 +47,10 @@ pub fn outermost_step(heap: Global, card: &Card, tree: &Tree) -> Result<Option<S
     ensures { IfOk result (λ s. Stepped (card_of card.now) (tree_of tree.now) s) }
 {
     let redexes = redexes(heap, card, tree)?;
+    // a tree at rest is told without its sites, whose list costs as much again
+    if redexes.is_empty() {
+        return Ok(None);
+    }
     let sites = sites(heap, card, tree)?;
     let place = outermost(&sites);
     let (Some(&redex), Some(site)) = (redexes.get(place), sites.get(place)) else {

@@ -67,7 +67,7 @@ fn is_below(tree: &Tree, whole: &Tree) -> bool
     ensures { result ≡ proper (tree_of tree.now) (tree_of whole.now) }
 {
     for child in &whole.children {
-        if tree == child || is_below(tree, child) {
+        if tree.same(child) || is_below(tree, child) {
             return true;
         }
     }
