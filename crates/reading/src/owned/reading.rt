@@ -18,7 +18,7 @@ impl Recipe {
     }
 }
 
-// The recipe of a text over at most 64 symbols. The places that were read are copied, and not the whole array.
+// The recipe of a text over at most 64 symbols.
 pub fn read_owned_recipe(text: &[u8], symbols: &[SymbolRecord]) -> Result<Recipe, Refusal>
     ensures { MatchResult result
         (λ p. recipe (take 64 symbols.now) text.now ≡ Ok (recipe_places p))
@@ -26,6 +26,7 @@ pub fn read_owned_recipe(text: &[u8], symbols: &[SymbolRecord]) -> Result<Recipe
 {
     let mut places = [Place::Empty; 4096];
     let count = read_recipe(text, symbols, &mut places)?;
-    let places = ArrayVec::try_from(&places[..count]).unwrap();
+    let mut places = ArrayVec::from(places);
+    places.truncate(count);
     Ok(Recipe { places })
 }
